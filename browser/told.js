@@ -90,13 +90,15 @@ const linesOfList = (text) => text.split(" ").flatMap((it) => {
   return from === undefined ? [] : Array.from({ length: Math.min(Number(to || from) - Number(from) + 1, 100000) }, (_, i) => Number(from) + i);
 });
 
-// What a run of a whole text reports at its end: motions that weren't tried, points that weren't touched, ways that begin elsewhere, output that isn't written, and where nothing is
+// What a run of a whole text reports at its end: motions that weren't tried, points that weren't touched, ways that begin elsewhere, output that isn't written, other tips, and where nothing is
 // known any more.
 function readUntried(text) {
   const found = [];
   for (const line of text.split("\n")) {
     const it = /^(not tried|approached, not touched|begins elsewhere|not reported) (\d+): lines? ([\d() -]+)(?:, (.*))?$/.exec(line), on = /^not tried from line (\d+) on/.exec(line);
+    const tip = /^another tip since lines? ([\d() -]+)$/.exec(line);
     if (it) found.push({ text: line, kind: it[1], count: Number(it[2]), lines: linesOfList(it[3]), cause: it[4] || "" });
+    else if (tip) found.push({ text: line, kind: "another tip", count: linesOfList(tip[1]).length, lines: linesOfList(tip[1]), cause: "what comes behind it is tried with the tip of the part" });
     else if (on) found.push({ text: line, kind: "from", count: 0, lines: [Number(on[1])], cause: "it isn't known how the program goes on" });
   }
   return found;

@@ -9,12 +9,13 @@ const capitals = (free) => free.replace(/\b[xyz](?= -?\d)/g, (c) => c.toUpperCas
 // What wasn't tried, as sentences without their ends.
 function untriedText(untried) {
   const of = (kind) => untried.filter((it) => it.kind === kind), count = (them) => them.reduce((sum, it) => sum + it.count, 0), parts = [];
-  const not = of("not tried"), approached = of("approached, not touched"), elsewhere = of("begins elsewhere"), reported = of("not reported"), on = of("from");
+  const not = of("not tried"), approached = of("approached, not touched"), elsewhere = of("begins elsewhere"), reported = of("not reported"), tips = of("another tip"), on = of("from");
   if (not.length) parts.push(`${counted(count(not), "motion wasn't", "motions weren't")} tried: ${linesText(not.flatMap((it) => it.lines))}`);
   if (on.length) parts.push(`nothing is tried from line ${on[0].lines[0]} on`);
   if (approached.length) parts.push(`${counted(count(approached), "point is", "points are")} approached and not touched: ${linesText(approached.flatMap((it) => it.lines))}`);
   if (elsewhere.length) parts.push(`${counted(count(elsewhere), "way begins", "ways begin")} elsewhere: ${linesText(elsewhere.flatMap((it) => it.lines))}`);
   if (reported.length) parts.push(`${counted(count(reported), "output isn't", "outputs aren't")} written: ${linesText(reported.flatMap((it) => it.lines))}`);
+  if (tips.length) parts.push(`another tip is selected: ${linesText(tips.flatMap((it) => it.lines))}`);
   return parts;
 }
 

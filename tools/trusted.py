@@ -48,6 +48,8 @@ PROMISES = {
     "part": ["vcm_keys/src"],
     "survey": ["vcm_survey/src", "vcm_adapt/src", "vcm_classes/src", "vcm_sentences/src", "vcm_standard/src"],
     "values": ["vcm_values/src"],
+    "place": ["vcm_place/src", "vcm_summary/src"],
+    "judge": ["vcm_judge/src", "vcm_summary/src"],
 }
 
 # What speaks of several views at once, and is for each of them.

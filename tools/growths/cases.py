@@ -41,9 +41,13 @@ FILES = {
     # inches, a question, and a frame by datums
     "asked.dmi": "DMISMN/'ASKED',05.2\nUNITS/INCH,ANGDEC\nDECL/INTGR,V\nTEXT/QUERY,(V),5,N,L,'HOW MANY'\nD(A)=DATSET/DAT(P),ZDIR\nGOTO/1,1,2.5\n"
     "IF/(V.EQ.10)\nGOTO/1,2,2.5\nENDIF\nENDFIL\n",
+    # a frame that isn't known, and one of the machine, under long names; a way that begins elsewhere, and meets a block
+    "lost.dmi": HEAD + "MODE/PROG,MAN\nD(A_VERY_LONG_NAME_OF_A_FRAME)=DATSET/DAT(P),XDIR\nGOTO/20,20,60\nD(ANOTHER_LONG_NAME_OF_IT)=DATSET/MCS\nGOTO/20,20,5\nENDFIL\n",
     "plain.dmi": "DMISMN/'PLAIN',05.2\nUNITS/MM,ANGDEC\nGOTO/20,20,50\nGOHOME\nENDFIL\n",
     # points that are measured on the models of the rows; a part file to which no block can be added; a model that ends too soon
     "points.csv": "mx,my,mz,mi,mj,mk\n120.000,115.000,10.000,1,0,0\n110.000,110.000,12.000,0,0,1\n",
+    # a clamp that stays where the workpiece lies off its place
+    "clamped.toml": BOUNDS + "[[block]]\nlow = [10000, 10000, 0]\nhigh = [30000, 30000, 20000]\n[[block]]\nlow = [-60000, 10000, 0]\nhigh = [-40000, 30000, 20000]\nfixture = true\n",
     "inline.toml": BOUNDS + "block = [{low = [10000, 10000, 0], high = [30000, 30000, 20000]}]\n",
     "torn.stl": "solid part\nfacet normal 0 0 1\nouter loop\nvertex 0 0 0\nvertex 20 0\n",
 }
@@ -172,8 +176,25 @@ def runs():
     yield case(f"why asked.dmi part-a.toml --whole {given}")
     yield case(f"trace asked.dmi part-a.toml --whole {given}", kind="lines")
     yield case(f"points asked.dmi part-a.toml --whole {given}", kind="lines")
+    yield case("why lost.dmi part-a.toml --whole", status=3)
+    yield case("points lost.dmi part-a.toml --whole", kind="lines", status=3)
     yield case("check touch.dmi square.dmi --whole", kind="several")
     yield case("trace turned.dmi torn.toml", status=1)
+    for command in ("run", "why", "contacts", "trace", "margin", "points", "picture", "view"):
+        kind = {"contacts": "lines", "trace": "lines", "points": "lines", "view": "page"}.get(command, "")
+        yield case(f"{command} grid.dmi clamped.toml --place 0.5,0,0.25 --strict", status=0, kind=kind)
+    yield case("clearance grid.dmi clamped.toml stylus.toml --place=-0.5,0,0 --strict", status=3, kind="lines")
+    yield case("part clamped.toml --place 1,2,3 --strict")
+    yield case("run touch.dmi notes.toml --strict", status=1)
+    yield case("run touch.dmi part-a.toml --place 1,2", status=2)
+    yield case("debug touch.dmi clamped.toml --place 0,0,0.5 --strict", "run\nquit\n", kind="session")
+    yield case("place grid.dmi clamped.toml --by 0.5 --steps 1000 --quiet --strict")
+    yield case("place touch.dmi clamped.toml --by 2.5 --from-line 5", status=3)
+    yield case("judge touch.dmi late.dmi into.dmi --part part-a.toml", status=1, kind="judged")
+    yield case("judge overhang.dmi plate.dmi touch.dmi --steps 1000 --strict --place 0,0,0.25", status=1, kind="judged")
+    yield case("judge overhang.dmi --probe stylus.toml --csv", status=3, kind="judged")
+    yield case(f"judge asked.dmi --part part-a.toml --whole {given} --junit ../image", kind="judged")
+    yield case("judge touch.dmi --part part-a.toml --report ../image", kind="judged")
 
 
 def texts():

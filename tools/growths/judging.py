@@ -19,11 +19,13 @@ HALTED = b"no memory "
 LEFT_OUT = b"no memory\n"
 SUMMARY = re.compile(rb"(?m)^(?:(.+): )?notices: .*\n")
 STANDS = re.compile(rb"step ([0-9]+) ")
+# The second line of a refusal of a workpiece that lies off its place, which tells where that was.
+AT_PLACE = re.compile(rb"at place [^\n]*\n\Z")
 
 
 def is_told(wanted, told):
-    """Whether standard error has want of memory as its last line, behind some first lines of what is wanted."""
-    front, _, last = told[:-1].rpartition(b"\n")
+    """Whether standard error has want of memory as its last line, but for the place of the workpiece, behind some first lines of what is wanted."""
+    front, _, last = AT_PLACE.sub(b"", told)[:-1].rpartition(b"\n")
     front += b"\n" if front else b""
     return bool(NO_MEMORY.fullmatch(last + b"\n")) and wanted.startswith(front)
 
@@ -48,6 +50,19 @@ def are_several(wanted, found, most):
     if found.status != 5 or not 0 < len(set(names)) == len(names) <= most:
         return False
     return found.out == without(names, wanted.out) and without(names, found.told) == without(names, wanted.told)
+
+
+def are_judged(case, wanted, found, most):
+    """Whether at most so many of several programs have a line that says that they want memory, and the others the line that is wanted; the counts are those of these lines."""
+    is_csv = "--csv" in case.words
+    lines, whole = found.out.splitlines(), wanted.out.splitlines()
+    last, counts = (len(lines), b"") if is_csv else (len(lines) - 1, lines[-1] if lines else b"")
+    if (found.status, found.told) != (5, wanted.told) or len(lines) != len(whole):
+        return False
+    wants = [(one, other) for one, other in zip(lines[:last], whole[:last]) if one != other]
+    mark = re.compile(rb",[^,]*,5,no memory," if is_csv else rb" no memory(,|\Z)")
+    told = [one for one, other in wants if mark.match(one, len(re.split(rb"[ ,]", other)[0]))]
+    return 0 < len(wants) <= most and len(told) == len(wants) and (is_csv or counts.endswith(b"%d out of memory" % len(wants)))
 
 
 class Sessions:
@@ -159,6 +174,8 @@ def is_right(case, wanted, found, ask):
         return True
     if case.kind == "several":
         return are_several(wanted, found, case.in_a_row)
+    if case.kind == "judged":
+        return is_told(wanted.told, found.told) and found.status == 5 and is_front(wanted.out, found.out, "lines") or are_judged(case, wanted, found, case.in_a_row)
     if case.kind == "adapter":
         return is_right_talk(wanted, found, case.in_a_row)
     if case.kind == "session" and (found.status, found.told) == (wanted.status, wanted.told):

@@ -5,6 +5,7 @@ from space import apart
 from visits import spelled
 
 WITHIN = 0.002
+CUT = 0.03  # where values may be cut off: each coordinate, and each shift of its frame, by 0.005 at most
 
 
 @dataclass

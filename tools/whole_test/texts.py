@@ -53,7 +53,8 @@ class Writer:
         name = self.pick.choice(self.wholes + self.indices)
         real = self.pick.choice(self.reals)
         sums = [f"{name}+{self.pick.randint(1, 60)}", f"{real}+{self.pick.randint(1, 60)}"]
-        return self.pick.choice([*sums, f"{name}*10", real, f"{real}*2", f"-{name}*5", f"{name}/2*10", f"({name}+1)*{real}"])
+        parts = [f"{real}/3", f"{real}*1.5", f"{real}*0.70710678", f"{name}*2.54", f"{real}/7*700", f"({real}-{name})/2.0"] if "quotient" in self.kinds else []
+        return self.pick.choice([*sums, *parts, f"{name}*10", real, f"{real}*2", f"-{name}*5", f"{name}/2*10", f"({name}+1)*{real}"])
 
     def place(self, most=150):
         """Three lengths."""
@@ -68,6 +69,8 @@ class Writer:
         """A truth value."""
         name, real = self.pick.choice(self.wholes + self.indices), self.pick.choice(self.reals)
         sign = self.pick.choice(["GT", "LT", "EQ", "NE", "LE", "GE"])
+        if "quotient" in self.kinds and self.chance(0.3):
+            return self.pick.choice([f"{real}/3.{sign}.{self.literal(30)}", f"{real}*3.{sign}.{real}*3.0", f"{real}/2.{sign}.{real}*0.5", f"{real}*1.01.{sign}.{self.literal(30)}"])
         return self.pick.choice([f"{name}.{sign}.{self.pick.randint(0, 5)}", f"{real}.{sign}.{self.literal(30)}", f"{name}.GT.1.AND.{name}.LT.4", "B", f".NOT.B.OR.{name}.EQ.2"])
 
     # ---- motions
@@ -308,7 +311,7 @@ class Writer:
     def quotient(self):
         """A quotient, or a factor that isn't whole."""
         name = self.pick.choice(self.reals)
-        self.put(f"{name}=ASSIGN/" + self.pick.choice([f"{name}/3", f"{name}/7*700", f"{name}*1.01", "1.0/3.0", f"{name}/1000", f"{name}*1000", "N/4*2.5"]))
+        self.put(f"{name}=ASSIGN/" + self.pick.choice([f"{name}/3", f"{name}/7*700", f"{name}*1.01", "1.0/3.0", f"{name}/1000", f"{name}*1000", "N/4*2.5", "N*0.0254", f"{name}*0.5", f"{name}/2.0", f"{name}*1.00001", f"-{name}/3+1", f"({name}+1)/4"]))
 
     def question(self):
         """A question to the operator."""

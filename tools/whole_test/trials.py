@@ -1,6 +1,7 @@
 """One text with its part, the machines of all readings that carry it out, and what the comparison finds."""
 import os
 import random
+import re
 from collections import Counter
 
 import answers
@@ -59,8 +60,13 @@ class Trial:
             self.answer = planted.modelled(Machine, self.machines, options.planted)
         planted.change(self.answer, options.planted or 0, self.seed)
         if not self.answer.refused:
-            self.results = [comparison.Comparison(it, self.answer, options.within).run() for it in self.machines(Machine)]
+            self.results = [comparison.Comparison(it, self.answer, self.within()).run() for it in self.machines(Machine)]
         return self
+
+    def within(self):
+        """How far a tried way may lie from the machine's: farther where the text has quotients or factors with decimals, which are cut off."""
+        is_cut = any(re.search(r"/\d|\*\d*\.\d", line.partition("/")[2]) for line in self.text.splitlines())
+        return max(self.options.within, comparison.CUT if is_cut else 0)
 
     def failures(self):
         """The failures: for each reading and kind the first sentence, and how many there are."""

@@ -137,6 +137,14 @@ fn check_asked(alloc: Global, request: &Request<'_, '_>) -> String {
     }
 }
 
+// The trial of programs that is asked for.
+fn judge_asked(alloc: Global, request: &Request<'_, '_>) -> String {
+    let programs = request.programs();
+    let programs = programs.join(alloc, " ").unwrap_or(String::new(alloc));
+    let part = request.value(Choice::Beside).unwrap_or("");
+    joined(alloc, &["judge words=", &programs, " part=", part])
+}
+
 // The picture that is asked for.
 fn picture_asked(alloc: Global, request: &Request<'_, '_>) -> String {
     let lines = request.value(Choice::Stretch);
@@ -201,6 +209,8 @@ fn asked(alloc: Global, request: &Request<'_, '_>) -> String {
             &[named(request, Choice::Machine, "machine", "points")],
             request,
         ),
+        Verb::Place => with_option(alloc, "place", " by=", Choice::By, request),
+        Verb::Judge => judge_asked(alloc, request),
         Verb::Dap | Verb::Explain => copied(alloc, request.usage().name),
         Verb::Why | Verb::Contacts | Verb::Trace | Verb::Margin => {
             run_asked(alloc, &[request.usage().name], request)

@@ -378,6 +378,10 @@ impl Script {
         let made = self.made(heading);
         let line = line_of(alloc, &self.title, FEW);
         let asked = self.asked(heading, &line, &made);
+        // Of many programs one that can't be read is a line of the answer.
+        if line.starts_with("vcm judge ") {
+            return wrong;
+        }
         let whole = try_devices(&asked, DEVICES, &mut wrong);
         try_closed(&asked, &whole, &mut wrong);
         if matches!(heading, Heading::Run) {

@@ -101,15 +101,21 @@ abbrev pub is_kind_event : Event → Bool
 is_kind_event events.Mode = true
 is_kind_event events.OwnPoints = true
 is_kind_event events.Unit = true
+is_kind_event events.Angle = true
 is_kind_event events.Scanning = true
 is_kind_event events.Clearance = true
 is_kind_event events.Compensation = true
 is_kind_event e = false
 
--- whether an assignment loses nothing: an event by which something is known again, or a value that the machine has
+-- whether an event is one of the plane, which polar places alone ask for: they aren't put as they are written
+abbrev pub is_plane_event : Event → Bool
+is_plane_event events.Plane = true
+is_plane_event e = false
+
+-- whether an assignment loses nothing: an event by which something is known again, one of the plane, or a value that the machine has
 abbrev pub is_sure_assignment : List Target → Option Event → Source → Bool
 is_sure_assignment given None value = is_sure_value given value
-is_sure_assignment given (Some e) value = is_kind_event e && is_number (leaf_in value)
+is_sure_assignment given (Some e) value = is_plane_event e || (is_kind_event e && is_number (leaf_in value))
 
 -- whether the name of a feature is one of the text
 abbrev pub is_own : Option Spot → Bool

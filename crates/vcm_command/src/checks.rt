@@ -196,7 +196,7 @@ fn judge_whole<R: Print + Eprint + AllocGlobal>(
     text: &[u8],
 ) -> u8 {
     match put_whole(rt.alloc(), request, 0, checked.name, text) {
-        Ok(built) => match status_of_unused(rt, &built.whole.facts) {
+        Ok(built) => match status_of_unused(rt, &built.whole.facts, built.names.as_slice()) {
             Some(status) => status,
             None => tell_whole(rt, checked, &built),
         },

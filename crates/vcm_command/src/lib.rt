@@ -1,5 +1,5 @@
-//! The commands of vcm: what its command line asks for is carried out. Here stand checks of several programs, producers' texts, blocks of
-//! models, explanations and the debug adapter; the others stand in `vcm_devices`.
+//! The commands of vcm: what its command line asks for is carried out. Here stand checks and trials of several programs, workpieces off their
+//! place, producers' texts, blocks of models, explanations and the debug adapter; the others stand in `vcm_devices`.
 #![tactic(auto)]
 
 mod blocks;
@@ -8,6 +8,9 @@ mod checks;
 mod choices;
 mod dap;
 mod explaining;
+mod judge;
+mod judged;
+mod off_place;
 mod producing;
 mod program;
 mod telling;

@@ -5,6 +5,8 @@ use crate::checks::check_programs;
 use crate::choices::says_of_whole;
 use crate::dap::serve_editor;
 use crate::explaining::explain;
+use crate::judge::judge_programs;
+use crate::off_place::show_places;
 use crate::producing::{adapt_file, survey_file};
 use crate::whole::show_whole;
 use clap::Error;
@@ -17,7 +19,7 @@ use vcm_devices::{
     show_points, show_result, show_view, voice_of,
 };
 use vcm_messages::Message;
-use vcm_usage::{Choice, Verb};
+use vcm_usage::{Choice, Rest, Verb};
 
 // Answers a request for help or the version on standard output, tells a wrong command line on standard error, and gives the exit status.
 fn tell_usage<R: Print + Eprint>(rt: &R, error: &Error) -> u8 {
@@ -86,7 +88,7 @@ fn carry_out<R: Files + Input + Print + Eprint + AllocGlobal>(
     words: &[String],
 ) -> u8 {
     if request.usage().takes(Choice::Whole) {
-        if request.has(Choice::Whole) && request.verb() != Verb::Check {
+        if request.has(Choice::Whole) && request.usage().rest != Rest::Programs {
             return show_whole(rt, voice, request);
         }
         if !request.has(Choice::Whole) && says_of_whole(request) {
@@ -113,6 +115,8 @@ fn carry_out<R: Files + Input + Print + Eprint + AllocGlobal>(
         Verb::Dap => serve_editor(rt),
         Verb::List => list_file(rt, voice, request),
         Verb::Asm => asm_file(rt, voice, request),
+        Verb::Place => show_places(rt, voice, request),
+        Verb::Judge => judge_programs(rt, voice, request),
         // Its words are read before the command line is.
         Verb::Explain => explain(rt, &[]),
     }

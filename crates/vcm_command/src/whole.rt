@@ -5,7 +5,7 @@ use std::alloc::Global;
 use std::rt::Files;
 use vcm_devices::{
     NamedSetting, Request, View, Voice, bytes_of, fails, fails_in_view, fails_twice,
-    named_setting_of, output, status_after, write_given, written,
+    named_setting_of, output, print_bytes, status_after, write_given, written,
 };
 use vcm_job::{Done, Given, InputRefusal, RunFault, is_image, show_given};
 use vcm_loader::load;
@@ -15,12 +15,14 @@ use vcm_num::{Items, NoMemory};
 use vcm_part::PartData;
 use vcm_plain::Unit;
 use vcm_remarks::NumberedRemark;
-use vcm_short_names::{ShortName, Shortened, shorten_names};
-use vcm_untried::{Counts, count_remarks, untried_text, was_all_tried};
+use vcm_short_names::{ShortName, Shortened, lengthen_names, long_name, long_out, shorten_names};
+use vcm_untried::{
+    Counts, NamedFrame, count_remarks, standing_of, untried_text, was_all_tried, way_text,
+};
 use vcm_usage::{Choice, Verb};
 use vcm_values::variable_named;
 use vcm_views::{Points, Values, Why};
-use vcm_whole::{Facts, Whole, build_whole};
+use vcm_whole::{Facts, FrameLine, Whole, build_whole};
 
 const IMAGE: Message<'static> = Message::Option {
     words: "--whole takes the text of a program, and no image",
@@ -114,11 +116,20 @@ fn unit_name(unit: Unit) -> &'static str {
     }
 }
 
-/// Tells of a name that the command line gives and the text never uses, and gives the exit status, if there is one.
-pub(crate) fn status_of_unused<R: Eprint>(rt: &R, facts: &Facts) -> Option<u8> {
+/// A name that the command line gives and the text never asks for, if there is one, as the text has it.
+pub(crate) fn unused_name<'a>(facts: &'a Facts, names: &'a [ShortName]) -> Option<&'a str> {
     let name = facts.unused.as_ref()?;
-    let name = std::str::from_utf8(name.as_bytes()).unwrap_or("?");
-    let _ = eprintln!(rt; "usage: the text never uses {name}");
+    Some(std::str::from_utf8(long_out(names, name.as_bytes())).unwrap_or("?"))
+}
+
+/// Tells of such a name, and gives the exit status, if there is one.
+pub(crate) fn status_of_unused<R: Eprint>(
+    rt: &R,
+    facts: &Facts,
+    names: &[ShortName],
+) -> Option<u8> {
+    let name = unused_name(facts, names)?;
+    let _ = eprintln!(rt; "usage: the text never asks for {name}");
     Some(2)
 }
 
@@ -205,8 +216,8 @@ struct Report {
 }
 
 // What is reported of these counts; none where memory is refused.
-fn report_of(alloc: Global, counts: &Counts) -> Option<Report> {
-    let text = untried_text(alloc, counts).ok()?;
+fn report_of(alloc: Global, counts: &Counts, frames: &[NamedFrame]) -> Option<Report> {
+    let text = untried_text(alloc, counts, frames).ok()?;
     Some(Report {
         text,
         is_whole: was_all_tried(counts),
@@ -219,6 +230,7 @@ fn counted(
     part: &PartData,
     given: &Given,
     remarks: &[NumberedRemark],
+    frames: &[NamedFrame],
     steps: u64,
 ) -> Option<Report> {
     let Ok(loaded) = load(alloc, &given.image) else {
@@ -230,21 +242,132 @@ fn counted(
     let Ok(counts) = count_remarks(alloc, &workpiece, &loaded, steps, remarks) else {
         return None;
     };
-    report_of(alloc, &counts)
+    report_of(alloc, &counts, frames)
 }
 
-// Prints a view of a run of what was given.
-fn print_given<'a, R: Print + AllocGlobal>(
+// The statements that make or recall a frame, with the names that the text has for them.
+fn frames_named(
+    alloc: Global,
+    frames: &[FrameLine],
+    names: &[ShortName],
+) -> Result<Items<NamedFrame>, NoMemory> {
+    let mut named = Items::new(alloc);
+    for frame in frames {
+        let name = long_name(alloc, names, frame.name.as_bytes())?;
+        named.push(NamedFrame {
+            line: frame.line,
+            name,
+            takes_given: frame.takes_given,
+        })?;
+    }
+    Ok(named)
+}
+
+// What is told of the way on which a run stops; none where memory is refused.
+fn way_told(
+    alloc: Global,
+    part: &PartData,
+    given: &Given,
+    frames: &[NamedFrame],
+    steps: u64,
+) -> Option<Vec<u8>> {
+    let Ok(loaded) = load(alloc, &given.image) else {
+        return None;
+    };
+    let Ok(workpiece) = AnyPart::of(alloc, part) else {
+        return None;
+    };
+    let Ok(standing) = standing_of(alloc, &workpiece, &loaded, steps) else {
+        return None;
+    };
+    way_text(alloc, &standing, frames).ok()
+}
+
+// What stands behind a view: of `why` what is told of the way on which the run stops, where what is known is carried; none where memory is refused.
+fn behind_view(
+    alloc: Global,
+    request: &Request<'_, '_>,
+    setting: &NamedSetting,
+    given: &Given,
+    frames: &[NamedFrame],
+) -> Option<Vec<u8>> {
+    if request.verb() == Verb::Why && given.text.is_none() {
+        way_told(alloc, &setting.part, given, frames, setting.steps)
+    } else {
+        Some(Vec::new(alloc))
+    }
+}
+
+// A view of a run of what was given, as it is printed: with the names that the text has, and with these bytes behind it.
+fn text_of_view<'a>(
+    alloc: Global,
+    view: &View<'_>,
+    setting: &NamedSetting,
+    given: Given,
+    names: &[ShortName],
+    behind: &[u8],
+    input: &'a str,
+) -> Result<(Done, Vec<u8>), Message<'a>> {
+    let mut shown = Vec::new(alloc);
+    let done = match write_given(alloc, view, given, &setting.part, setting.steps, &mut shown) {
+        Ok(done) => done,
+        Err(fault) => return Err(short_of_memory(message_of(fault, input))),
+    };
+    let Ok(mut text) = lengthen_names(alloc, names, &shown) else {
+        return Err(Message::NoMemory);
+    };
+    match text.extend_from_slice(behind) {
+        Ok(()) => Ok((done, text)),
+        Err(_) => Err(Message::NoMemory),
+    }
+}
+
+// What is written to memory fails for want of it alone.
+fn short_of_memory(message: Message<'_>) -> Message<'_> {
+    match message {
+        Message::Write { .. } => Message::NoMemory,
+        message => message,
+    }
+}
+
+// Prints a view of a run of what was given as it is written.
+fn print_plain<'a, R: Print + AllocGlobal>(
     rt: &R,
     view: &View<'_>,
-    part: &PartData,
+    setting: &NamedSetting,
     given: Given,
-    steps: u64,
     input: &'a str,
 ) -> Result<Done, Message<'a>> {
     let mut out = output(rt)?;
-    let done = write_given(rt.alloc(), view, given, part, steps, &mut out);
+    let done = write_given(
+        rt.alloc(),
+        view,
+        given,
+        &setting.part,
+        setting.steps,
+        &mut out,
+    );
     written(&mut out, done.map_err(|fault| message_of(fault, input)))
+}
+
+// Prints a view of a run of what was given, with the names that the text has, and with these bytes behind it.
+fn print_given<'a, R: Print + AllocGlobal>(
+    rt: &R,
+    view: &View<'_>,
+    setting: &NamedSetting,
+    given: Given,
+    names: &[ShortName],
+    behind: &[u8],
+    input: &'a str,
+) -> Result<Done, Message<'a>> {
+    if names.is_empty() && behind.is_empty() {
+        return print_plain(rt, view, setting, given, input);
+    }
+    let (done, text) = text_of_view(rt.alloc(), view, setting, given, names, behind, input)?;
+    match print_bytes(rt, &text) {
+        Ok(()) => Ok(done),
+        Err(message) => Err(message),
+    }
 }
 
 // Reports what wasn't tried, and gives the exit status of the run that had this one.
@@ -261,17 +384,18 @@ fn tell_untried<R: Eprint>(rt: &R, report: &Report, status: u8) -> u8 {
 // Prints what was asked for of a run: a view, or the values of variables.
 fn print_asked<'a, R: Print + AllocGlobal>(
     rt: &R,
-    request: &Request<'_, '_>,
+    request: &Request<'a, '_>,
     setting: &NamedSetting,
     given: Given,
-    input: &'a str,
+    names: &[ShortName],
+    behind: &[u8],
 ) -> Result<Done, Message<'a>> {
-    let (part, steps) = (&setting.part, setting.steps);
+    let input = request.input();
     match names_shown(request) {
-        Some(names) => print_values(rt, part, given, names, steps, input),
+        Some(shown) => print_values(rt, &setting.part, given, shown, setting.steps, input),
         None => {
             let view = view_of(request, &setting.block_names);
-            print_given(rt, &view, part, given, steps, input)
+            print_given(rt, &view, setting, given, names, behind, input)
         }
     }
 }
@@ -337,11 +461,18 @@ fn show_running<R: Print + Eprint + AllocGlobal>(
         facts,
         names,
     } = running;
-    let (part, steps) = (&setting.part, setting.steps);
-    let Some(report) = counted(rt.alloc(), part, &given, &remarks, steps) else {
+    let alloc = rt.alloc();
+    let Ok(frames) = frames_named(alloc, facts.frames.as_slice(), names.as_slice()) else {
         return fails(rt, Message::NoMemory);
     };
-    match print_asked(rt, request, setting, given, request.input()) {
+    let (part, steps) = (&setting.part, setting.steps);
+    let Some(report) = counted(alloc, part, &given, &remarks, frames.as_slice(), steps) else {
+        return fails(rt, Message::NoMemory);
+    };
+    let Some(behind) = behind_view(alloc, request, setting, &given, frames.as_slice()) else {
+        return fails(rt, Message::NoMemory);
+    };
+    match print_asked(rt, request, setting, given, names.as_slice(), &behind) {
         Ok(done) => {
             let status = status_after(rt, voice, Ok(done));
             tell_reading(rt, voice, "", &facts, names.as_slice());
@@ -360,7 +491,7 @@ fn show_beside<R: Files + Input + Print + Eprint + AllocGlobal>(
 ) -> u8 {
     let tip = setting.part.bounds().tip;
     match whole_of(rt, request, tip, request.input()) {
-        Ok(running) => match status_of_unused(rt, &running.facts) {
+        Ok(running) => match status_of_unused(rt, &running.facts, running.names.as_slice()) {
             Some(status) => status,
             None => show_running(rt, voice, request, setting, running),
         },

@@ -20,18 +20,20 @@ _vcm_takes() {
     survey) options="--tip --part --frame --exact --lines" valued="--tip:. --part:toml --frame:." files=("dmi dmis") ;;
     adapt) options="--tip --part --frame --exact --touch" valued="--tip:. --part:toml --frame:." files=("dmi dmis") ;;
     build) options="--talk --quiet" valued="" files=("dmi dmis" "") ;;
-    run) options="--talk --quiet --steps --show --whole --frame --given --apprch --retrct --search --auto --approach" valued="--steps:. --show:. --frame:. --given:. --apprch:. --retrct:. --search:." files=("dmi dmis vcmi" "toml") ;;
-    why) options="--quiet --steps --whole --frame --given --apprch --retrct --search --auto --approach" valued="--steps:. --frame:. --given:. --apprch:. --retrct:. --search:." files=("dmi dmis vcmi" "toml") ;;
-    contacts) options="--quiet --steps" valued="--steps:." files=("dmi dmis vcmi" "toml") ;;
-    trace) options="--quiet --steps --whole --frame --given --apprch --retrct --search --auto --approach" valued="--steps:. --frame:. --given:. --apprch:. --retrct:. --search:." files=("dmi dmis vcmi" "toml") ;;
-    margin) options="--quiet --steps" valued="--steps:." files=("dmi dmis vcmi" "toml") ;;
-    points) options="--quiet --steps --machine --whole --frame --given --apprch --retrct --search --auto --approach" valued="--steps:. --frame:. --given:. --apprch:. --retrct:. --search:." files=("dmi dmis vcmi" "toml") ;;
-    clearance) options="--quiet --steps" valued="--steps:." files=("dmi dmis vcmi" "toml" "toml") ;;
-    picture) options="--quiet --steps --close --sheet --lines" valued="--steps:. --lines:." files=("dmi dmis vcmi" "toml") ;;
-    view) options="--quiet --steps --probe" valued="--steps:. --probe:toml" files=("dmi dmis vcmi" "toml") ;;
-    part) options="--quiet" valued="" files=("toml") ;;
+    run) options="--talk --quiet --steps --place --strict --show --whole --frame --given --apprch --retrct --search --auto --approach" valued="--steps:. --place:. --show:. --frame:. --given:. --apprch:. --retrct:. --search:." files=("dmi dmis vcmi" "toml") ;;
+    why) options="--quiet --steps --place --strict --whole --frame --given --apprch --retrct --search --auto --approach" valued="--steps:. --place:. --frame:. --given:. --apprch:. --retrct:. --search:." files=("dmi dmis vcmi" "toml") ;;
+    contacts) options="--quiet --steps --place --strict" valued="--steps:. --place:." files=("dmi dmis vcmi" "toml") ;;
+    trace) options="--quiet --steps --place --strict --whole --frame --given --apprch --retrct --search --auto --approach" valued="--steps:. --place:. --frame:. --given:. --apprch:. --retrct:. --search:." files=("dmi dmis vcmi" "toml") ;;
+    margin) options="--quiet --steps --place --strict" valued="--steps:. --place:." files=("dmi dmis vcmi" "toml") ;;
+    points) options="--quiet --steps --place --strict --machine --whole --frame --given --apprch --retrct --search --auto --approach" valued="--steps:. --place:. --frame:. --given:. --apprch:. --retrct:. --search:." files=("dmi dmis vcmi" "toml") ;;
+    clearance) options="--quiet --steps --place --strict" valued="--steps:. --place:." files=("dmi dmis vcmi" "toml" "toml") ;;
+    picture) options="--quiet --steps --place --strict --close --sheet --lines" valued="--steps:. --place:. --lines:." files=("dmi dmis vcmi" "toml") ;;
+    view) options="--quiet --steps --place --strict --probe" valued="--steps:. --place:. --probe:toml" files=("dmi dmis vcmi" "toml") ;;
+    place) options="--quiet --steps --strict --by --from-line" valued="--steps:. --by:. --from-line:." files=("dmi dmis vcmi" "toml") ;;
+    judge) options="--steps --part --probe --place --strict --whole --frame --given --apprch --retrct --search --auto --approach --csv --junit --report" valued="--steps:. --part:toml --probe:toml --place:. --frame:. --given:. --apprch:. --retrct:. --search:. --junit:. --report:." files=("dmi dmis") is_many=1 ;;
+    part) options="--quiet --place --strict" valued="--place:." files=("toml") ;;
     blocks) options="--talk --quiet --unit --turn --at --within --most --near --into --name" valued="--unit:. --turn:. --at:. --within:. --most:. --near:csv --into:toml --name:." files=("stl") ;;
-    debug) options="--talk --quiet" valued="" files=("dmi dmis vcmi" "toml") ;;
+    debug) options="--talk --quiet --place --strict" valued="--place:." files=("dmi dmis vcmi" "toml") ;;
     dap) options="" valued="" files=() ;;
     list) options="--talk --quiet" valued="" files=("dmi dmis vcmi") ;;
     asm) options="--talk" valued="" files=("" "") ;;
@@ -40,7 +42,7 @@ _vcm_takes() {
 }
 _vcm() {
   local word=${COMP_WORDS[COMP_CWORD]} before=${COMP_WORDS[COMP_CWORD-1]} options valued files is_many i place=0
-  local commands="check survey adapt build run why contacts trace margin points clearance picture view part blocks debug dap list asm explain"
+  local commands="check survey adapt build run why contacts trace margin points clearance picture view place judge part blocks debug dap list asm explain"
   COMPREPLY=()
   if [ "$COMP_CWORD" -eq 1 ]; then
     COMPREPLY=($(compgen -W "$commands help --help --version" -- "$word"))

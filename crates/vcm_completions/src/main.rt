@@ -44,10 +44,10 @@ fn text_of(alloc: Global, name: &str) -> Option<String> {
     }
 }
 
-// Whether one of the words of a text, which are parted by anything but letters, is this.
+// Whether one of the words of a text, which are parted by anything but letters and hyphens, is this, or a hyphen and this.
 fn names(text: &str, word: &str) -> bool {
-    text.split(|letter: char| !letter.is_ascii_alphabetic())
-        .any(|found| found == word)
+    text.split(|letter: char| !letter.is_ascii_alphabetic() && letter != '-')
+        .any(|found| found == word || found.strip_prefix("-") == Some(word))
 }
 
 // Adds those of these options that the manual doesn't name.

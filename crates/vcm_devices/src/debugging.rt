@@ -1,7 +1,7 @@
 //! A session of the debugger on the standard devices.
 
 use crate::hand::debug_typed;
-use crate::parts::part_of;
+use crate::parts::part_given;
 use crate::printing::{output, written};
 use crate::request::Request;
 use crate::talking::{Voice, fails_in, fails_twice, tell_notices};
@@ -44,7 +44,7 @@ pub fn debug_file<R: Files + Input + Print + Eprint + AllocGlobal>(
     voice: Voice,
     request: &Request<'_, '_>,
 ) -> u8 {
-    let part = match part_of(rt, voice, request.part()) {
+    let part = match part_given(rt, voice, request) {
         Ok(part) => part,
         Err(told) => return fails_twice(rt, &told),
     };

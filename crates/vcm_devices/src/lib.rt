@@ -22,7 +22,7 @@ pub use debugging::debug_file;
 pub use files::{asm_file, build_file, check_file, list_file};
 pub use jobs::run_job;
 pub use pages::show_page;
-pub use parts::{PartFile, part_file_of, part_of, show_part};
+pub use parts::{PartFile, moved_part, part_file_given, part_file_of, part_of, show_part};
 pub use printing::{
     DASH, Outlet, Output, STANDARD_INPUT, bytes_of, fails, output, print_bytes, status_after,
     written,

@@ -1,6 +1,6 @@
 //! The picture of a run, and the words of a sheet on the command line.
 
-use crate::parts::named_part_of;
+use crate::parts::named_part_given;
 use crate::request::Request;
 use crate::showing::{show_beside, show_view};
 use crate::talking::{Voice, alone, fails_twice};
@@ -66,7 +66,7 @@ fn show_sheet<R: Files + Input + Print + Eprint + AllocGlobal>(
     let Some(lines) = lines_given(request.value(Choice::Stretch)) else {
         return fails_twice(rt, &alone(LINES));
     };
-    let (part, names) = match named_part_of(rt, voice, request.part()) {
+    let (part, names) = match named_part_given(rt, voice, request) {
         Ok(named) => named,
         Err(told) => return fails_twice(rt, &told),
     };

@@ -1,6 +1,6 @@
 //! What is shown of a run: its views, on the standard devices.
 
-use crate::parts::{named_part_of, part_of};
+use crate::parts::{named_part_given, part_given};
 use crate::printing::{DASH, STANDARD_INPUT, fails, output, status_after, written};
 use crate::request::Request;
 use crate::talking::{Told, Voice, alone, fails_in, fails_in_view, fails_twice};
@@ -121,7 +121,7 @@ pub(crate) fn setting_of<'a, R: Files + Input + Eprint + AllocGlobal>(
     let Some(steps) = request.steps() else {
         return Err(alone(Message::Steps));
     };
-    match part_of(rt, voice, request.part()) {
+    match part_given(rt, voice, request) {
         Ok(part) => Ok((steps, part)),
         Err(told) => Err(told),
     }
@@ -136,7 +136,7 @@ pub fn named_setting_of<'a, R: Files + Input + Eprint + AllocGlobal>(
     let Some(steps) = request.steps() else {
         return Err(alone(Message::Steps));
     };
-    match named_part_of(rt, voice, request.part()) {
+    match named_part_given(rt, voice, request) {
         Ok((part, block_names)) => Ok(NamedSetting {
             steps,
             part,

@@ -45,6 +45,10 @@ leg axis e = record { axis = axis; length = e }
 abbrev pub slanted : Coordinates → (i j k : ℤ) → Form
 slanted p i j k = Shift slanted_name (leg X p.x ∷ leg Y p.y ∷ leg Z p.z ∷ leg X (whole_of i) ∷ leg Y (whole_of j) ∷ leg Z (whole_of k) ∷ [])
 
+-- a point that is approached and left along the direction of its feature: its place alone
+abbrev pub pointed : Coordinates → Form
+pointed p = Shift slanted_name (leg X p.x ∷ leg Y p.y ∷ leg Z p.z ∷ [])
+
 -- half the width of the tip, in micrometres, which slanted points ask for
 abbrev pub tip_said : ℤ → Form
 tip_said width = Shift slanted_name (leg X (length_of width) ∷ [])

@@ -59,6 +59,16 @@ pub enum Event {
     Points,
     /// Which sensor is selected.
     Sensor,
+    /// The unit of angles.
+    Angle,
+    /// The plane that polar places are in.
+    Plane,
+    /// A polar place stands in the statements up to the next event: they are carried out where the plane and the unit of angles are known.
+    Polar,
+    /// The end of such statements; elsewhere a motion isn't tried.
+    PolarMotion,
+    /// The end of such statements; elsewhere a point isn't tried.
+    PolarPoint,
     /// A jump to a label that stands nowhere: it isn't known how the program goes on.
     Ends,
     /// Everything.
@@ -94,6 +104,11 @@ impl Event {
             Event::Machine => b"0MACHINE",
             Event::Points => b"0POINTS",
             Event::Sensor => b"0SENSOR",
+            Event::Angle => b"0ANGLE",
+            Event::Plane => b"0PLANE",
+            Event::Polar => b"0POLAR",
+            Event::PolarMotion => b"0POLARMOTION",
+            Event::PolarPoint => b"0POLARPOINT",
             Event::Ends => b"0ENDS",
             Event::All => b"0ALL",
         }
@@ -128,6 +143,11 @@ impl Event {
                 (b"0MACHINE", Event::Machine),
                 (b"0POINTS", Event::Points),
                 (b"0SENSOR", Event::Sensor),
+                (b"0ANGLE", Event::Angle),
+                (b"0PLANE", Event::Plane),
+                (b"0POLAR", Event::Polar),
+                (b"0POLARMOTION", Event::PolarMotion),
+                (b"0POLARPOINT", Event::PolarPoint),
                 (b"0ENDS", Event::Ends),
                 (b"0ALL", Event::All),
             ],

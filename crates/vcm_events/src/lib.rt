@@ -9,4 +9,4 @@ mod spots;
 pub use event::{Event, gained, lost, numbered, valued};
 pub use joined::{joined as join, length, pair, whole};
 pub use not_known::{unknown, unknown_place, unknown_rounds};
-pub use spots::{Spot, slanted, slanted_name, spotted, tip_said};
+pub use spots::{Spot, pointed, slanted, slanted_name, spotted, tip_said};

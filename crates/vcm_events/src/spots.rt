@@ -1,7 +1,7 @@
 //! Places that are kept for later, steps from the probe's place, and slanted points, said as statements whose names no text can write.
 
 ghost use Rattle.std.specs.Prelude.{◌≡◌, IfOk};
-ghost use Rattle.vcm_events.specs.Spots.{spot_name, spot_named, spotted, slanted_name, leg, slanted, tip_said};
+ghost use Rattle.vcm_events.specs.Spots.{spot_name, spot_named, spotted, slanted_name, leg, slanted, pointed, tip_said};
 
 use crate::joined::{length, whole};
 use std::alloc::Global;
@@ -93,6 +93,21 @@ pub fn slanted(
     legs.push(leg(FrameAxis::X, whole(alloc, direction.0)?))?;
     legs.push(leg(FrameAxis::Y, whole(alloc, direction.1)?))?;
     legs.push(leg(FrameAxis::Z, whole(alloc, direction.2)?))?;
+    Ok(Form::Shift(slanted_name(), legs))
+}
+
+/// A point that is approached and left along the direction of its feature.
+///
+/// # Errors
+///
+/// Out of memory.
+pub fn pointed(alloc: Global, place: Coordinates) -> Result<Form, NoMemory>
+    ensures { IfOk result (λ f. f ≡ pointed place) }
+{
+    let mut legs = Items::new(alloc);
+    legs.push(leg(FrameAxis::X, place.x))?;
+    legs.push(leg(FrameAxis::Y, place.y))?;
+    legs.push(leg(FrameAxis::Z, place.z))?;
     Ok(Form::Shift(slanted_name(), legs))
 }
 

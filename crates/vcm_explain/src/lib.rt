@@ -4,6 +4,7 @@
 mod entry;
 mod file_entries;
 mod line_entries;
+mod many_entries;
 mod model_entries;
 mod probe_entries;
 mod program_entries;
@@ -13,7 +14,8 @@ mod session_entries;
 use crate::file_entries::{
     code_entries, image_entries, listing_entries, part_entries, placing_entries,
 };
-use crate::line_entries::{result_entries, view_entries, why_entries};
+use crate::line_entries::{result_entries, view_entries, whole_entries, why_entries};
+use crate::many_entries::many_entries;
 use crate::model_entries::{
     model_entries, model_line_entries, model_notice_entries, model_size_entries,
     model_writing_entries,
@@ -27,7 +29,7 @@ use crate::session_entries::session_entries;
 pub use entry::Entry;
 
 /// All explanations: of programs, of part files, probe files, models, images and listings, of the debugger, of runs, and of the lines of answers.
-pub fn explanations() -> [&'static [Entry]; 27] {
+pub fn explanations() -> [&'static [Entry]; 29] {
     [
         line_entries(),
         spelling_entries(),
@@ -50,12 +52,14 @@ pub fn explanations() -> [&'static [Entry]; 27] {
         session_entries(),
         motion_entries(),
         arithmetic_entries(),
+        whole_entries(),
         notice_entries(),
         device_entries(),
         result_entries(),
         why_entries(),
         view_entries(),
         clearance_entries(),
+        many_entries(),
     ]
 }
 

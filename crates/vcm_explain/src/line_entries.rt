@@ -63,7 +63,7 @@ the debugger `line 12` tells the first statement of a source line.",
     },
 ];
 
-const VIEWS: [Entry; 6] = [
+const VIEWS: [Entry; 4] = [
     Entry {
         keys: &["margin"],
         text: "margin
@@ -96,14 +96,39 @@ A line of `vcm survey`: what becomes of so many statements. Some fit as they are
 have no effect; some move nothing and are left out; some `vcm adapt` puts otherwise; and
 some aren't tried, so what the machine does there isn't known. `--lines` tells each one
 with its reason. After a run with `--whole`: so many motions of these lines weren't tried,
-for this cause, since the line that it came about at; `30(3)` is line 30 three times.",
+for this cause, since the line that it came about at; `30(3)` is line 30 three times. Where
+the statement of that line names a frame, `--frame` says where it lies.",
     },
+];
+
+const WHOLE: [Entry; 5] = [
     Entry {
         keys: &["begins elsewhere"],
         text: "begins elsewhere
 After a run with `--whole`: these ways were tried, but from where the probe stands in vcm,
 since a motion before them wasn't tried or the sensor changed. The machine comes from
-elsewhere, and may meet a block on its way there.",
+elsewhere, and may meet a block on its way there. In `vcm why --whole` it is so of the way
+on which the run stops: where the machine's probe stands isn't known since that line.",
+    },
+    Entry {
+        keys: &["another tip since"],
+        text: "another tip since
+After a run with `--whole`: at these lines another sensor is selected than before. What
+comes behind them is tried with the tip of the part all the same, so it says nothing of
+another one.",
+    },
+    Entry {
+        keys: &["frame"],
+        text: "frame
+A line of `vcm why --whole`: the frame that is current where the run stops, and the line
+at which it was made current. The places of the text are in it.",
+    },
+    Entry {
+        keys: &["usage: the text never asks for", "the text never asks for"],
+        text: "the text never asks for
+With `--whole`: a frame of `--frame` that no statement takes as it is given, since the text
+makes it itself before it asks for it, or has no such frame; or a variable of `--given` that
+the operator isn't asked for. What to do: look at the name, or leave the option out.",
     },
     Entry {
         keys: &["a value isn't known"],
@@ -127,4 +152,9 @@ pub(crate) fn why_entries() -> &'static [Entry] {
 // Explanations of the lines of other views, of the debugger and of a survey.
 pub(crate) fn view_entries() -> &'static [Entry] {
     &VIEWS
+}
+
+// Explanations of what is told of producers' texts as they stand.
+pub(crate) fn whole_entries() -> &'static [Entry] {
+    &WHOLE
 }

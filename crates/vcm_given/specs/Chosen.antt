@@ -18,7 +18,7 @@ use Rattle.vcm_forms.specs.Statements.{as_read}
 use Rattle.vcm_events.specs.declared.event.Event.TheVariants as events
 use Rattle.vcm_events.specs.Events.{event_name, gained}
 use Rattle.vcm_events.specs.Joined.{length_of}
-use Rattle.vcm_events.specs.Spots.{leg, slanted, tip_said}
+use Rattle.vcm_events.specs.Spots.{leg, slanted, pointed, tip_said}
 use Rattle.vcm_num.specs.declared.axis.Axis.{Axis}
 use Rattle.vcm_num.specs.declared.axis.Axis.TheVariants.{PlusX, MinusX, PlusY, MinusY, PlusZ, MinusZ}
 use Rattle.vcm_forms.specs.declared.statement.Coordinates.{Coordinates}
@@ -147,11 +147,11 @@ direction_of MinusZ = (pos 0, pos 0, negsuc 999)
 abbrev pub approached_by : Coordinates → ℤ × ℤ × ℤ → Form
 approached_by p d = slanted p d.0 d.1 d.2
 
--- a point, which is approached and left where this is asked for
+-- a point, which is approached and left where this is asked for: in its direction, or in that of its feature
 abbrev pub touched : Bool → Coordinates → Option Axis → Form
 touched false p d = form.Touch p d
 touched true p (Some axis) = approached_by p (direction_of axis)
-touched true p None = gained events.UntriedPoint
+touched true p None = pointed p
 
 -- what a statement on a line is, with what is given
 abbrev pub chosen_form : Choices → List Asked → ℕ → Form → List Form

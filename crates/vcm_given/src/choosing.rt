@@ -15,7 +15,7 @@ use crate::frames::{frame_named, place, place_all};
 use crate::statements::add;
 use std::alloc::Global;
 use std::vec::IntoIter;
-use vcm_events::{Event, gained, length as length_of, slanted, tip_said};
+use vcm_events::{Event, gained, length as length_of, pointed, slanted, tip_said};
 use vcm_expr::Expr;
 use vcm_forms::{Coordinates, Form, Offset, Statement, Target};
 use vcm_items::Name;
@@ -169,7 +169,10 @@ fn put_touch(
             let form = slanted(alloc, place, direction_of(axis))?;
             add(out, line, form)
         }
-        None => add(out, line, gained(Event::UntriedPoint)),
+        None => {
+            let form = pointed(alloc, place)?;
+            add(out, line, form)
+        }
     }
 }
 

@@ -2,42 +2,155 @@
 
 ghost use Rattle.std.specs.Prelude.{◌≡◌, IfOk};
 ghost use Rattle.std.specs.Str.{bytes_eq};
-ghost use Rattle.vcm_given.specs.Unused.{names_frame, is_made, unmade, is_asked, unasked, unused};
+ghost use Rattle.vcm_given.specs.Unused.{is_this, hands_over, places, takes, makes, deeper, depth_behind, is_jump, nothing_above, above_behind, takes_at, is_taken, unmade, is_asked, unasked, unused};
 
 use crate::answers::{Asked, ask_all};
 use crate::choices::{Answer, Choices, GivenFrame};
 use std::alloc::Global;
-use vcm_forms::{Form, Statement};
+use vcm_forms::{Argument, Form, Statement};
 use vcm_items::Name;
 use vcm_lines::Logical;
 use vcm_num::{NoMemory, is};
 
-// Whether a statement makes, turns or recalls the frame with this name.
-fn names_frame(name: &Name, form: &Form) -> bool
-    ensures { result ≡ names_frame name.now form.now }
+/// Deeper blocks aren't counted: a text that has them is refused.
+pub const DEEPEST: u32 = 1_000;
+
+/// What stands above a statement: whether it is sure that the text has made the frame of its own, whether no label and no jump stands there, and how many
+/// blocks and macros are open.
+#[derive(Clone, Copy)]
+pub struct Above {
+    pub made: bool,
+    pub straight: bool,
+    pub depth: u32,
+}
+
+// Whether an argument is this name.
+fn is_this(name: &Name, argument: &Argument) -> bool
+    ensures { result ≡ is_this name.now argument.now.name }
+{
+    match &argument.name {
+        Some(other) => is(other.as_bytes(), name.as_bytes()),
+        None => false,
+    }
+}
+
+// Whether a call hands over this name.
+fn hands_over(name: &Name, arguments: &[Argument]) -> bool
+    ensures { result ≡ hands_over name.now arguments.now }
+{
+    arguments.iter().any(|argument| is_this(name, argument))
+}
+
+// Whether a statement makes the frame with this name of something that isn't known.
+fn places(name: &Name, form: &Form) -> bool
+    ensures { result ≡ places name.now form.now }
 {
     match form {
-        Form::Shift(label, _) => is(label.as_bytes(), name.as_bytes()),
-        Form::Rotation(label, _, _) => is(label.as_bytes(), name.as_bytes()),
-        Form::Restore(label) => is(label.as_bytes(), name.as_bytes()),
+        Form::Shift(label, offsets) => {
+            offsets.as_slice().is_empty() && is(label.as_bytes(), name.as_bytes())
+        }
         _ => false,
     }
 }
 
-// Whether one of the statements does.
-fn is_made(said: &[Statement], name: &Name) -> bool
-    ensures { result ≡ is_made said.now name.now }
+// Whether a statement takes the frame as it is given.
+fn takes(name: &Name, form: &Form) -> bool
+    ensures { result ≡ takes name.now form.now }
 {
-    said.iter()
-        .any(|statement| names_frame(name, &statement.form))
+    match form {
+        Form::Restore(label) => is(label.as_bytes(), name.as_bytes()),
+        Form::Call(_, arguments) => hands_over(name, arguments.as_slice()),
+        _ => places(name, form),
+    }
 }
 
-// The first frame that no statement names.
+// Whether a statement makes the frame of its own.
+fn makes(name: &Name, form: &Form) -> bool
+    ensures { result ≡ makes name.now form.now }
+{
+    match form {
+        Form::Shift(label, offsets) => {
+            !offsets.as_slice().is_empty() && is(label.as_bytes(), name.as_bytes())
+        }
+        Form::Rotation(label, _, _) => is(label.as_bytes(), name.as_bytes()),
+        _ => false,
+    }
+}
+
+// One more block or macro is open.
+fn deeper(depth: u32) -> u32
+    ensures { result ≡ deeper depth }
+{
+    if depth < DEEPEST { depth + 1 } else { depth }
+}
+
+// How many blocks and macros are open behind a statement.
+fn depth_behind(depth: u32, form: &Form) -> u32
+    ensures { result ≡ depth_behind depth form.now }
+{
+    match form {
+        Form::Test(_) | Form::Choose(_) | Form::Repeat(_) | Form::Macro(_, _) => deeper(depth),
+        Form::TestEnd | Form::ChooseEnd | Form::RepeatEnd | Form::MacroEnd => {
+            depth.saturating_sub(1)
+        }
+        _ => depth,
+    }
+}
+
+// Whether a statement is a label or a jump.
+fn is_jump(form: &Form) -> bool
+    ensures { result ≡ is_jump form.now }
+{
+    matches!(form, Form::Mark(_) | Form::Leap(_))
+}
+
+// What stands above behind a statement.
+fn above_behind(name: &Name, above: Above, form: &Form) -> Above
+    ensures { result ≡ above_behind name.now above form.now }
+{
+    let sure = makes(name, form) && above.straight && above.depth == 0;
+    Above {
+        made: above.made || sure,
+        straight: above.straight && !is_jump(form),
+        depth: depth_behind(above.depth, form),
+    }
+}
+
+// Whether a statement takes the frame as it is given, or places it so where the text has made it.
+fn takes_at(name: &Name, above: Above, form: &Form) -> bool
+    ensures { result ≡ takes_at name.now above form.now }
+{
+    if above.made {
+        places(name, form)
+    } else {
+        takes(name, form)
+    }
+}
+
+// Whether one of the statements does.
+fn is_taken(name: &Name, said: &[Statement]) -> bool
+    ensures { result ≡ is_taken name.now nothing_above said.now }
+{
+    let mut above = Above {
+        made: false,
+        straight: true,
+        depth: 0,
+    };
+    for statement in said {
+        if takes_at(name, above, &statement.form) {
+            return true;
+        }
+        above = above_behind(name, above, &statement.form);
+    }
+    false
+}
+
+// The first frame that changes nothing.
 fn unmade(said: &[Statement], frames: &[GivenFrame]) -> Option<Name>
     ensures { result ≡ unmade said.now frames.now }
 {
     for frame in frames {
-        if !is_made(said, &frame.name) {
+        if !is_taken(&frame.name, said) {
             return Some(frame.name.copy());
         }
     }
@@ -71,7 +184,7 @@ fn unasked(all: &[Asked], answers: &[Answer]) -> Option<Name>
     None
 }
 
-/// The first name that is given and that the text never uses: a frame that no statement names, or a variable that no question asks for.
+/// The first name that is given and that the text never uses: a frame that no statement takes as it is given, or a variable that no question asks for.
 ///
 /// # Errors
 ///

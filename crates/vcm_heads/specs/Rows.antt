@@ -6,7 +6,7 @@ use Rattle.vcm_lines.specs.declared.logical.Logical.{Logical}
 use Rattle.vcm_lines.specs.Lexemes.{Lexeme, lexemes}
 use Rattle.vcm_heads.specs.Heads.{found_or, major_of, behind_of, first_field, is_label}
 use Rattle.vcm_heads.specs.declared.rows.Row.{Row}
-use Rattle.vcm_heads.specs.declared.rows.Row.TheVariants.{Shape, Value, Motion, Aim, Target, Touch, Scan, Text, Test, Loop, Choice, Call, Stated, Output, Feature, Measure, MeasureEnd, Qualification, Settings, Frame, Fit, Recall, Save, Delete, Mode, Units, Scanning, Table, Compensation, Sensor, From, Values, Features, Silent, Other}
+use Rattle.vcm_heads.specs.declared.rows.Row.TheVariants.{Shape, Value, Motion, Aim, Target, Touch, Scan, Text, Test, Loop, Choice, Call, Stated, Output, Feature, Measure, MeasureEnd, Qualification, Settings, Frame, Fit, Recall, Save, Delete, Mode, Units, Scanning, Table, Compensation, Sensor, Plane, From, Values, Features, Silent, Other}
 
 -- the words of statements, each with what becomes of them
 abbrev pub rows : List (List ℕ × Row)
@@ -57,6 +57,7 @@ rows =
     ∷ (codes "ROTAB", Table)
     ∷ (codes "PRCOMP", Compensation)
     ∷ (codes "SNSLCT", Sensor)
+    ∷ (codes "WKPLAN", Plane)
     ∷ (codes "FROM", From)
     ∷ (codes "PROMPT", Values)
     ∷ (codes "READ", Values)
@@ -76,7 +77,6 @@ rows =
     ∷ (codes "TECOMP", Silent)
     ∷ (codes "GECOMP", Silent)
     ∷ (codes "PUSH", Silent)
-    ∷ (codes "WKPLAN", Silent)
     ∷ (codes "SNSDEF", Silent)
     ∷ (codes "DECPL", Silent)
     ∷ (codes "FILNAM", Silent)

@@ -71,6 +71,8 @@ pub enum Row {
     Compensation,
     /// SNSLCT.
     Sensor,
+    /// WKPLAN.
+    Plane,
     /// Where GOHOME goes.
     From,
     /// Values that aren't known.
@@ -131,6 +133,7 @@ const ROWS: &[(&[u8], Row)] = &[
     (b"ROTAB", Row::Table),
     (b"PRCOMP", Row::Compensation),
     (b"SNSLCT", Row::Sensor),
+    (b"WKPLAN", Row::Plane),
     (b"FROM", Row::From),
     (b"PROMPT", Row::Values),
     (b"READ", Row::Values),
@@ -150,7 +153,6 @@ const ROWS: &[(&[u8], Row)] = &[
     (b"TECOMP", Row::Silent),
     (b"GECOMP", Row::Silent),
     (b"PUSH", Row::Silent),
-    (b"WKPLAN", Row::Silent),
     (b"SNSDEF", Row::Silent),
     (b"DECPL", Row::Silent),
     (b"FILNAM", Row::Silent),

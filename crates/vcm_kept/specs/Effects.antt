@@ -18,7 +18,7 @@ use Rattle.vcm_events.specs.Spots.{spot_named, slanted_name}
 use Rattle.vcm_templates.specs.declared.guarded.Guarded.{Guarded}
 use Rattle.vcm_templates.specs.declared.carried.Carried.TheVariants as carried
 use Rattle.vcm_templates.specs.declared.carried.Item.TheVariants as items
-use Rattle.vcm_templates.specs.declared.carried.TheConstants.{FEATURES_STEP}
+use Rattle.vcm_templates.specs.declared.carried.TheConstants.{FEATURES_STEP, UNKNOWN_SENSOR}
 use Rattle.vcm_templates.specs.declared.lengths.Kept.TheVariants as kept
 use Rattle.vcm_templates.specs.Carried.{carried_term}
 use Rattle.vcm_templates.specs.Expressions.{number}
@@ -30,7 +30,7 @@ use Rattle.vcm_kept.specs.Places.{forgets}
 
 -- nothing
 abbrev pub no_effects : Effects
-no_effects = record { moves = false; machine = false; selects = false; settings = false; frames = false; features = false; values = false; spots = false; leaves = false; all = false }
+no_effects = record { moves = false; machine = false; selects = false; settings = false; frames = false; features = false; values = false; spots = false; planes = false; leaves = false; all = false }
 
 -- what one or the other may do
 abbrev pub either_effects : Effects → Effects → Effects
@@ -43,6 +43,7 @@ either_effects a b = record {
   features = a.features || b.features;
   values = a.values || b.values;
   spots = a.spots || b.spots;
+  planes = a.planes || b.planes;
   leaves = a.leaves || b.leaves;
   all = a.all || b.all;
 }
@@ -73,6 +74,10 @@ may_measure = record no_effects { moves = true; features = true }
 abbrev pub may_keep : Effects
 may_keep = record no_effects { spots = true }
 
+-- and change the plane of polar places, or the unit of angles
+abbrev pub may_plane : Effects
+may_plane = record no_effects { planes = true }
+
 -- what an event may do
 abbrev pub event_effects : Event → Effects
 event_effects events.Mode = may_turn
@@ -98,6 +103,11 @@ event_effects events.Frames = may_frame
 event_effects events.Frame = may_frame
 event_effects events.Saving = may_frame
 event_effects events.Machine = may_frame
+event_effects events.Angle = may_plane
+event_effects events.Plane = may_plane
+event_effects events.Polar = no_effects
+event_effects events.PolarMotion = may_move
+event_effects events.PolarPoint = may_measure
 event_effects events.Ends = record no_effects { leaves = true }
 event_effects events.All = record no_effects { all = true }
 
@@ -165,7 +175,7 @@ lose_machine line =
 
 -- where the probe stands isn't, nor which sensor is selected
 unfoldable pub lose_sensor : ℕ → List Guarded
-lose_sensor line = set line carried.Place (Plain (number (pos 0))) ∷ set line carried.Sensor (Plain (number (pos 0))) ∷ []
+lose_sensor line = set line carried.Place (Plain (number (pos 0))) ∷ set line carried.Sensor (Plain (number UNKNOWN_SENSOR)) ∷ []
 
 -- the distances aren't
 unfoldable pub lose_settings : ℕ → List Guarded
@@ -182,6 +192,10 @@ lose_frames line =
 unfoldable pub lose_kept : ℕ → List Guarded
 lose_kept line = lose line carried.Home causes.Value ∷ forgets line kept.Home ∷ forgets line kept.Target ∷ []
 
+-- what polar places hang on isn't
+unfoldable pub lose_planes : ℕ → List Guarded
+lose_planes line = set line carried.Angle (Plain (number (pos 0))) ∷ set line carried.Plane (Plain (number (pos 0))) ∷ []
+
 -- the value of a variable isn't
 abbrev pub lose_index : ℕ → ℕ → List Guarded
 lose_index line i = set_item line items.Known i (Plain (number (pos 0))) ∷ []
@@ -191,11 +205,11 @@ unfoldable pub lose_state : ℕ → Effects → List Guarded
 lose_state line e =
     where_may e.moves (lose_motions line) ++ (where_may e.machine (lose_machine line) ++ (where_may e.selects (lose_sensor line) ++ where_may e.settings (lose_settings line)))
 
--- and to what is saved: frames, features, values and places
+-- and to what is saved: frames, features, values and places, and the plane
 unfoldable pub lose_saved : ℕ → Effects → List Guarded
 lose_saved line e =
     where_may e.frames (lose_frames line) ++ (where_may e.features (raise line carried.Features FEATURES_STEP ∷ [])
-    ++ (where_may e.values (raise line carried.Values (pos 1) ∷ []) ++ where_may e.spots (lose_kept line)))
+    ++ (where_may e.values (raise line carried.Values (pos 1) ∷ []) ++ (where_may e.spots (lose_kept line) ++ where_may e.planes (lose_planes line))))
 
 -- all that they may have done, and the variables that they set
 unfoldable pub lose_effects : ℕ → Effects → List ℕ → List Guarded

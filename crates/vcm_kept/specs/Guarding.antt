@@ -1,10 +1,11 @@
 -- What each statement of an expanded text is put as, behind those above it.
-use Rattle.std.specs.Prelude.{ℕ, ℤ, pos, codes, Bool, true, false, ◌&&◌, not, nat_lt, nat_eq, if◌then◌else◌, List, [], ◌∷◌, ◌++◌, length, slice_get, map, Option, Some, None, is_some, Result, Ok, Err}
+use Rattle.std.specs.Prelude.{ℕ, ℤ, pos, negsuc, codes, Bool, true, false, ◌&&◌, not, nat_lt, nat_eq, if◌then◌else◌, List, [], ◌∷◌, ◌++◌, length, slice_get, map, Option, Some, None, is_some, Result, Ok, Err}
 use Rattle.std.specs.List.{flat_map, list_all, list_any}
 use Rattle.std.specs.Str.{bytes_eq}
 use Rattle.vcm_num.specs.declared.number.Kind.{Kind}
 use Rattle.vcm_num.specs.declared.number.Kind.TheVariants as kinds
 use Rattle.vcm_num.specs.declared.axis.Axis.{Axis}
+use Rattle.vcm_num.specs.declared.axis.Axis.TheVariants.{PlusX, MinusX, PlusY, MinusY, PlusZ, MinusZ}
 use Rattle.vcm_num.specs.declared.limits.TheConstants.{MOST_NAMES, DEEPEST_BLOCKS}
 use Rattle.vcm_spec.specs.declared.expression.BinaryOp.TheVariants.{Add, Sub, Compare}
 use Rattle.vcm_spec.specs.declared.expression.Relation.TheVariants.{Equal, NotEqual, Greater}
@@ -48,18 +49,20 @@ use Rattle.vcm_events.specs.declared.spots.Spot.TheVariants as spots
 use Rattle.vcm_events.specs.Spots.{spot_named, slanted_name}
 use Rattle.vcm_templates.specs.declared.lengths.Kept.TheVariants as kept
 use Rattle.vcm_kept.specs.declared.effects.Effects.{Effects}
+use Rattle.vcm_kept.specs.Exactly.{want_of, exact_form, is_cut_placed}
 use Rattle.vcm_kept.specs.Effects.{no_effects, either_effects, effects_of, set_by, lose_block}
-use Rattle.vcm_remarks.specs.declared.remark.Remark.TheVariants.{NotReported}
-use Rattle.vcm_kept.specs.Places.{has_place, asks_place, motion_asks, length_asks, point_asks, asks_point, moves, homes, keeps, loses_track, reaches_target, steps_by, slants, keeps_setting, declares_kept, declares_slanted}
+use Rattle.vcm_remarks.specs.declared.remark.Remark.TheVariants.{NotReported, AnotherTip}
+use Rattle.vcm_kept.specs.Places.{has_place, asks_place, motion_asks, length_asks, point_asks, approach_asks, asks_point, moves, homes, keeps, loses_track, reaches_target, steps_by, approaches, slants, keeps_setting, declares_kept, declares_slanted}
 use Rattle.vcm_kept.specs.declared.reached.OpenBlock.{OpenBlock}
 use Rattle.vcm_templates.specs.declared.carried.Carried.{Carried}
 use Rattle.vcm_templates.specs.declared.carried.Carried.TheVariants as carried
 use Rattle.vcm_templates.specs.declared.carried.Item.TheVariants as items
-use Rattle.vcm_templates.specs.declared.carried.TheConstants.{IMPLICIT, FEATURES_STEP}
-use Rattle.vcm_templates.specs.Carried.{carried_target, carried_name, first_carried, last_carried, known_first, carried_term, item_term}
-use Rattle.vcm_templates.specs.Expressions.{number, truth, both, are_current, knows_frame, in_frame, has_form, is_found}
-use Rattle.vcm_events.specs.Joined.{pair}
-use Rattle.vcm_templates.specs.Templates.{stands, remarks, set, set_item, lose, know, raise, declare_item, untried, asks, asks_all, where_known, elsewhere, ends, goes, gone, untried_point, touched, lose_all, to_the_end, lose_frame, saves_frame, new_frame, frame_gone}
+use Rattle.vcm_templates.specs.declared.carried.TheConstants.{IMPLICIT, FEATURES_STEP, UNKNOWN_SENSOR}
+use Rattle.vcm_templates.specs.Carried.{carried_target, carried_name, first_carried, last_carried, known_first, carried_term, item_term, item_name}
+use Rattle.vcm_templates.specs.Expressions.{number, truth, both, is_current, are_current, knows_frame, in_frame, has_form, is_found}
+use Rattle.vcm_events.specs.Joined.{pair, whole_of}
+use Rattle.vcm_templates.specs.Templates.{stands, remarks, set, set_item, lose, know, raise, declare_item, untried, asks, asks_all, where_known, elsewhere, ends, goes, gone, untried_point, touched, lose_all, to_the_end, lose_frame, saves_frame, new_frame, frame_gone, asks_value, is_carried, declares_bound, sets_bound}
+use Rattle.vcm_templates.specs.declared.templates.TheConstants.{FAR}
 
 -- ---- what stands above
 
@@ -78,6 +81,15 @@ pub record Reached : Type 0 where
 abbrev pub begun : Reached
 begun = record { variables = []; frames = []; features = []; measuring = None; aiming = false; assigned = []; blocks = [] }
 
+-- the first of the variables of a text that carries how far its values may lie from the machine's: no text can write it
+abbrev pub first_variables : Bool → List Variable
+first_variables true = record { name = item_name items.Beside; kind = kinds.Bool; expansion = IMPLICIT } ∷ []
+first_variables false = []
+
+-- nothing stands above, in a text that carries it or not
+abbrev pub begun_in : Bool → Reached
+begun_in cut = record begun { variables = first_variables cut }
+
 -- ---- variables
 
 -- the variables with one more, if its name is new and there is room
@@ -92,23 +104,21 @@ abbrev pub with_variables : List Variable → ℕ → Kind → List (List ℕ) �
 with_variables vs e k [] = vs
 with_variables vs e k (name ∷ names) = with_variables (with_variable vs e k name) e k names
 
--- a variable that is declared has no value that is known; where its name was there the program is refused
-abbrev pub declares_one : ℕ → List Variable → ℕ → List ℕ → List Guarded
-declares_one line vs e name =
+-- what is carried of the variable at an index is declared with it, its bound too if that is: it has no value that is known
+unfoldable pub declares_variable : ℕ → Bool → ℕ → List Guarded
+declares_variable line bound i = declare_item line items.Known i ∷ set_item line items.Known i (Plain (number (pos 0))) ∷ declares_bound line bound i
+
+-- a variable that is declared; where its name was there the program is refused
+abbrev pub declares_one : ℕ → List Variable → ℕ → Kind → List ℕ → List Guarded
+declares_one line vs e k name =
     if nat_lt (length vs) MOST_NAMES
-    then (if list_any (is_named e name) vs then [] else declare_item line items.Known (length vs) ∷ set_item line items.Known (length vs) (Plain (number (pos 0))) ∷ [])
+    then (if list_any (is_named e name) vs then [] else declares_variable line (is_carried vs k) (length vs))
     else []
 
 -- the variables of a declaration, one by one
 abbrev pub declares_all : ℕ → List Variable → ℕ → Kind → List (List ℕ) → List Guarded
 declares_all line vs e k [] = []
-declares_all line vs e k (name ∷ names) = declares_one line vs e name ++ declares_all line (with_variable vs e k name) e k names
-
--- what a value of this kind is wanted as
-abbrev pub want_of : Kind → Want
-want_of kinds.Int = wants.Int
-want_of kinds.Real = wants.Length
-want_of kinds.Bool = wants.Bool
+declares_all line vs e k (name ∷ names) = declares_one line vs e k name ++ declares_all line (with_variable vs e k name) e k names
 
 -- the value of a variable at an index is known
 abbrev pub know_variable : ℕ → ℕ → Guarded
@@ -118,17 +128,17 @@ know_variable line i = set_item line items.Known i (Plain (carried_term carried.
 abbrev pub lose_variable : ℕ → ℕ → Guarded
 lose_variable line i = set_item line items.Known i (Plain (number (pos 0)))
 
--- an assignment to the variable at an index: where all variables of its value are known it has that value
-unfoldable pub assigned_where : ℕ → ℕ → List Variable → Target → ℕ → Source → List Guarded
-assigned_where line e vs t i value =
-    asks line (truth true) ∷ (asks_all line vs value ++ where_known line ∷ stands line e (form.Assignment t value) ∷ know_variable line i
-    ∷ elsewhere line ∷ lose_variable line i ∷ ends line ∷ [])
+-- an assignment to the variable of this kind at an index: where all variables of its value are known it has that value
+unfoldable pub assigned_where : ℕ → ℕ → List Variable → Target → Kind → ℕ → Source → List Guarded
+assigned_where line e vs t k i value =
+    asks line (truth true) ∷ (asks_value line vs FAR value ++ where_known line ∷ (sets_bound line vs k i value ++ stands line e (form.Assignment t value)
+    ∷ know_variable line i ∷ elsewhere line ∷ lose_variable line i ∷ ends line ∷ []))
 
 -- an assignment to the variable at an index, of this kind, if there is one
 abbrev pub assigned_to : ℕ → ℕ → List Variable → Target → Source → ℕ → Option Kind → List Guarded
 assigned_to line e vs t value i None = []
 assigned_to line e vs t value i (Some k) =
-    if has_form vs (want_of k) value then assigned_where line e vs t i value else lose_variable line i ∷ []
+    if has_form vs (want_of k) value then assigned_where line e vs t k i value else lose_variable line i ∷ []
 
 -- an assignment; a variable of no kind of the language has no value
 abbrev pub assigned_by : ℕ → ℕ → List Variable → Target → Source → Option ℕ → List Guarded
@@ -156,14 +166,22 @@ abbrev pub turns_state : ℕ → Carried → Cause → Bool → List Guarded
 turns_state line c why true = lose line c why ∷ []
 turns_state line c why false = know line c ∷ []
 
--- another sensor than the one that is selected, as a test tells: the probe stands elsewhere
-unfoldable pub selects : ℕ → Source → Source → List Guarded
-selects line test n =
-    stands line 0 (form.Test test) ∷ set line carried.Place (Plain (number (pos 0))) ∷ set line carried.Sensor n ∷ ends line ∷ []
+-- another sensor, or one that may be another: the probe stands elsewhere, and another tip is told where one was selected before, or it isn't known which;
+-- the first selection of a run is none of another tip
+unfoldable pub changes_sensor : ℕ → Source → List Guarded
+changes_sensor line n =
+    set line carried.Place (Plain (number (pos 0)))
+    ∷ stands line 0 (form.Test (pair (Compare NotEqual) (carried_term carried.Sensor) (number (pos 0))))
+    ∷ remarks line 0 (form.Assignment (carried_target carried.Place) (Plain (number (pos 0)))) AnotherTip
+    ∷ ends line ∷ set line carried.Sensor n ∷ []
 
--- a sensor that isn't known: the probe stands elsewhere
-unfoldable pub unselected : ℕ → List Guarded
-unselected line = set line carried.Place (Plain (number (pos 0))) ∷ set line carried.Sensor (Plain (number (pos 0))) ∷ []
+-- a sensor by its number, which is another one than that of before, as a test tells
+unfoldable pub selects : ℕ → Source → Source → List Guarded
+selects line test n = stands line 0 (form.Test test) ∷ (changes_sensor line n ++ ends line ∷ [])
+
+-- a sensor that isn't known
+abbrev pub unselected : ℕ → List Guarded
+unselected line = changes_sensor line (Plain (number UNKNOWN_SENSOR))
 
 -- whether a sensor is known by its number: that isn't 0, and the statement stands in no macro, where its words may be those of a parameter
 abbrev pub is_selected : ℕ → Option Term → Bool
@@ -196,6 +214,15 @@ unfoldable pub recalls_machine : Bool → ℕ → List Guarded
 recalls_machine true line = stands line 0 (form.Restore machine_name) ∷ new_frame line
 recalls_machine false line = lose_frame line ∷ []
 
+-- what polar places hang on: angles in decimal degrees, and the plane of X and Y
+unfoldable pub polar_asks : Source
+polar_asks = are_current (carried.Angle ∷ carried.Plane ∷ [])
+
+-- one of these is lost, or known again, in a text that asks for it
+abbrev pub turns_polar : Bool → ℕ → Carried → Bool → List Guarded
+turns_polar true line c nothing = turns_state line c causes.Value nothing
+turns_polar false line c nothing = []
+
 -- what an event does
 abbrev pub happens : Text → ℕ → ℕ → List Variable → Event → Source → List Guarded
 happens text line e vs events.Mode v = turns_machine line carried.Mode causes.Mode (is_nothing (leaf_in v))
@@ -221,6 +248,11 @@ happens text line e vs events.Saving v = set line carried.Saving (Plain (number 
 happens text line e vs events.Machine v = recalls_machine text.machine line
 happens text line e vs events.Points v = wants_points line vs v
 happens text line e vs events.Sensor v = selects_by line e (leaf_in v)
+happens text line e vs events.Angle v = turns_polar text.polar line carried.Angle (is_nothing (leaf_in v))
+happens text line e vs events.Plane v = turns_polar text.polar line carried.Plane (is_nothing (leaf_in v))
+happens text line e vs events.Polar v = stands line 0 (form.Test polar_asks) ∷ []
+happens text line e vs events.PolarMotion v = elsewhere line ∷ untried line ∷ ends line ∷ []
+happens text line e vs events.PolarPoint v = elsewhere line ∷ (untried_point line ++ ends line ∷ [])
 happens text line e vs events.Ends v = to_the_end line ∷ []
 happens text line e vs events.All v = untried line ∷ lose_all line
 
@@ -329,29 +361,53 @@ unfoldable pub nominal_where : ℕ → ℕ → List Guarded
 nominal_where line i =
     set_item line items.Nominal i in_frame ∷ elsewhere line ∷ set_item line items.Nominal i (Plain (number (pos 0))) ∷ ends line ∷ []
 
+-- the direction of an axis as whole numbers, in thousandths
+abbrev pub direction_of : Axis → Coordinates
+direction_of PlusX = record { x = whole_of (pos 1000); y = whole_of (pos 0); z = whole_of (pos 0) }
+direction_of MinusX = record { x = whole_of (negsuc 999); y = whole_of (pos 0); z = whole_of (pos 0) }
+direction_of PlusY = record { x = whole_of (pos 0); y = whole_of (pos 1000); z = whole_of (pos 0) }
+direction_of MinusY = record { x = whole_of (pos 0); y = whole_of (negsuc 999); z = whole_of (pos 0) }
+direction_of PlusZ = record { x = whole_of (pos 0); y = whole_of (pos 0); z = whole_of (pos 1000) }
+direction_of MinusZ = record { x = whole_of (pos 0); y = whole_of (pos 0); z = whole_of (negsuc 999) }
+
+-- the direction of the feature at an index is carried
+abbrev pub sets_direction : ℕ → ℕ → Coordinates → List Guarded
+sets_direction line i d = set_item line items.AlongX i d.x ∷ set_item line items.AlongY i d.y ∷ set_item line items.AlongZ i d.z ∷ []
+
+-- it is where points are approached along it
+abbrev pub keeps_direction : Bool → ℕ → ℕ → Axis → List Guarded
+keeps_direction true line i d = sets_direction line i (direction_of d)
+keeps_direction false line i d = []
+
 -- FEAT of a point along an axis, at its index
-unfoldable pub features_at : ℕ → ℕ → List Variable → List ℕ → Coordinates → Axis → ℕ → List Guarded
-features_at line e vs l p d i =
-    asks line length_asks ∷ (asks_place line vs p ++ where_known line ∷ stands line e (form.Feature l p d) ∷ nominal_where line i)
+unfoldable pub features_at : Bool → ℕ → ℕ → List Variable → List ℕ → Coordinates → Axis → ℕ → List Guarded
+features_at pointed line e vs l p d i =
+    asks line length_asks ∷ (asks_place line vs p ++ where_known line ∷ stands line e (form.Feature l p d) ∷ (keeps_direction pointed line i d ++ nominal_where line i))
+
+-- what is carried of a direction is declared, where points are approached along it
+abbrev pub declares_direction : Bool → ℕ → ℕ → List Guarded
+declares_direction true line i = declare_item line items.AlongX i ∷ declare_item line items.AlongY i ∷ declare_item line items.AlongZ i ∷ []
+declares_direction false line i = []
 
 -- what is carried of a feature is declared with it
-abbrev pub declares_feature : ℕ → ℕ → Option ℕ → List Guarded
-declares_feature line i None = declare_item line items.Measured i ∷ declare_item line items.Nominal i ∷ []
-declares_feature line i (Some j) = []
+abbrev pub declares_feature : Bool → ℕ → ℕ → Option ℕ → List Guarded
+declares_feature pointed line i None = declare_item line items.Measured i ∷ declare_item line items.Nominal i ∷ declares_direction pointed line i
+declares_feature pointed line i (Some j) = []
 
--- a feature that isn't known by its FEAT
+-- a feature that isn't known by its FEAT, nor is its value
 abbrev pub feature_gone : ℕ → Option ℕ → List Guarded
 feature_gone line None = []
-feature_gone line (Some i) = set_item line items.Nominal i (Plain (number (pos 0))) ∷ []
+feature_gone line (Some i) = set_item line items.Nominal i (Plain (number (pos 0))) ∷ set_item line items.Measured i (Plain (number (pos 0))) ∷ []
 
 -- a feature with room in the table; without room its FEAT is refused
-abbrev pub features_in : ℕ → ℕ → List Variable → List (List ℕ) → List ℕ → Coordinates → Axis → Result ℕ FaultCode → List Guarded
-features_in line e vs fs l p d (Ok i) = declares_feature line i (index_of fs l) ++ features_at line e vs l p d i
-features_in line e vs fs l p d (Err c) = stands line e (form.Feature l p d) ∷ []
+abbrev pub features_in : Bool → ℕ → ℕ → List Variable → List (List ℕ) → List ℕ → Coordinates → Axis → Result ℕ FaultCode → List Guarded
+features_in pointed line e vs fs l p d (Ok i) = declares_feature pointed line i (index_of fs l) ++ features_at pointed line e vs l p d i
+features_in pointed line e vs fs l p d (Err c) = stands line e (form.Feature l p d) ∷ []
 
 -- FEAT
-abbrev pub features : ℕ → ℕ → List Variable → List (List ℕ) → List ℕ → Coordinates → Axis → List Guarded
-features line e vs fs l p d = if has_place vs p then features_in line e vs fs l p d (entered fs l) else feature_gone line (index_of fs l)
+abbrev pub features : Bool → ℕ → ℕ → List Variable → List (List ℕ) → List ℕ → Coordinates → Axis → List Guarded
+features pointed line e vs fs l p d =
+    if has_place vs p then features_in pointed line e vs fs l p d (entered fs l) else feature_gone line (index_of fs l)
 
 -- names with one more, if there is room
 abbrev pub with_known : List (List ℕ) → List ℕ → List (List ℕ)
@@ -420,15 +476,20 @@ shifts_in line e vs ds l os = shifts_at line e vs l os (index_of ds l) (found_in
 abbrev pub shifts : ℕ → ℕ → List Variable → List (List ℕ) → List ℕ → List Offset → List Guarded
 shifts line e vs ds l os = if has_shifts vs os then shifts_in line e vs ds l os else frame_gone line (index_of ds l)
 
+-- what has to be known for a turn: also that angles are in decimal degrees, in a text that may have others
+abbrev pub turn_asks : Bool → Source
+turn_asks true = both length_asks (is_current carried.Angle)
+turn_asks false = length_asks
+
 -- ROTATE at the index of its frame; without room in the table it is refused
-abbrev pub turns_at : ℕ → ℕ → List ℕ → FrameAxis → Quarters → Option ℕ → Option ℕ → List Guarded
-turns_at line e l axis n was None = stands line e (form.Rotation l axis n) ∷ []
-turns_at line e l axis n was (Some i) =
-    declares_frame line i was ++ asks line length_asks ∷ where_known line ∷ stands line e (form.Rotation l axis n) ∷ made_where line i
+abbrev pub turns_at : Bool → ℕ → ℕ → List ℕ → FrameAxis → Quarters → Option ℕ → Option ℕ → List Guarded
+turns_at angles line e l axis n was None = stands line e (form.Rotation l axis n) ∷ []
+turns_at angles line e l axis n was (Some i) =
+    declares_frame line i was ++ asks line (turn_asks angles) ∷ where_known line ∷ stands line e (form.Rotation l axis n) ∷ made_where line i
 
 -- ROTATE
-abbrev pub turns_in : ℕ → ℕ → List (List ℕ) → List ℕ → FrameAxis → Quarters → List Guarded
-turns_in line e ds l axis n = turns_at line e l axis n (index_of ds l) (found_in (entered ds l))
+abbrev pub turns_in : Bool → ℕ → ℕ → List (List ℕ) → List ℕ → FrameAxis → Quarters → List Guarded
+turns_in angles line e ds l axis n = turns_at angles line e l axis n (index_of ds l) (found_in (entered ds l))
 
 -- behind a frame that is recalled it is the current one, elsewhere this isn't known
 unfoldable pub recalled_where : ℕ → ℕ → List Guarded
@@ -449,21 +510,21 @@ is_here Nominal i = is_nominal i
 is_here Actual i = is_measured i
 
 -- OBTAIN for the REAL at an index, of the feature at an index
-unfoldable pub obtains_here : ℕ → ℕ → Target → Side → List ℕ → FeatureWord → ℕ → ℕ → List Guarded
-obtains_here line e t side l word i j =
+unfoldable pub obtains_here : ℕ → ℕ → List Variable → Target → Side → List ℕ → FeatureWord → ℕ → ℕ → List Guarded
+obtains_here line e vs t side l word i j =
     asks line (both (is_here side j) length_asks) ∷ where_known line ∷ stands line e (form.Query t side l word)
-    ∷ know_variable line i ∷ elsewhere line ∷ lose_variable line i ∷ ends line ∷ []
+    ∷ (sets_bound line vs kinds.Real i (Plain (number (pos 0))) ++ know_variable line i ∷ elsewhere line ∷ lose_variable line i ∷ ends line ∷ [])
 
 -- OBTAIN for the variable at an index, of this kind, of the feature at an index
-abbrev pub obtains_at : ℕ → ℕ → Target → Side → List ℕ → FeatureWord → ℕ → Option Kind → Option ℕ → List Guarded
-obtains_at line e t side l word i (Some kinds.Real) (Some j) = obtains_here line e t side l word i j
-obtains_at line e t side l word i (Some k) j = lose_variable line i ∷ []
-obtains_at line e t side l word i None j = []
+abbrev pub obtains_at : ℕ → ℕ → List Variable → Target → Side → List ℕ → FeatureWord → ℕ → Option Kind → Option ℕ → List Guarded
+obtains_at line e vs t side l word i (Some kinds.Real) (Some j) = obtains_here line e vs t side l word i j
+obtains_at line e vs t side l word i (Some k) j = lose_variable line i ∷ []
+obtains_at line e vs t side l word i None j = []
 
 -- OBTAIN for the variable at an index, if there is one
 abbrev pub obtains_by : ℕ → ℕ → List Variable → List (List ℕ) → Target → Side → List ℕ → FeatureWord → Option ℕ → List Guarded
 obtains_by line e vs fs t side l word None = []
-obtains_by line e vs fs t side l word (Some i) = obtains_at line e t side l word i (slice_get (kinds_of vs) i) (index_of fs l)
+obtains_by line e vs fs t side l word (Some i) = obtains_at line e vs t side l word i (slice_get (kinds_of vs) i) (index_of fs l)
 
 -- an output line isn't written
 abbrev pub unreported : ℕ → Guarded
@@ -603,13 +664,28 @@ spots_by line vs p spots.Step = steps_by line vs Add p
 spots_by line vs p spots.Back = steps_by line vs Sub p
 
 -- FEAT, or such a place
-abbrev pub features_or : Reached → ℕ → ℕ → List ℕ → Coordinates → Axis → Option Spot → List Guarded
-features_or r line e l p d None = features line e r.variables r.features l p d
-features_or r line e l p d (Some s) = spots_by line r.variables p s
+abbrev pub features_or : Text → Reached → ℕ → ℕ → List ℕ → Coordinates → Axis → Option Spot → List Guarded
+features_or text r line e l p d None = features text.pointed line e r.variables r.features l p d
+features_or text r line e l p d (Some s) = spots_by line r.variables p s
 
--- TRANS, or a slanted point
+-- the direction of the feature at an index, as it is carried
+abbrev pub direction_in : ℕ → Coordinates
+direction_in i = record { x = Plain (item_term items.AlongX i); y = Plain (item_term items.AlongY i); z = Plain (item_term items.AlongZ i) }
+
+-- a point that is approached and left along the direction of the feature that is measured, where that is declared in this frame
+abbrev pub approaches_feature : Bool → ℕ → List Variable → Coordinates → Option ℕ → List Guarded
+approaches_feature steps line vs p None = untried_point line
+approaches_feature steps line vs p (Some i) = approaches steps line vs (both approach_asks (is_nominal i)) p (direction_in i)
+
+-- a slanted point, or one along the direction of its feature, which is said by its three coordinates alone
+abbrev pub slants_or : Text → ℕ → List Variable → Option ℕ → List Offset → List Guarded
+slants_or text line vs i (x ∷ y ∷ z ∷ []) =
+    approaches_feature text.steps line vs (record { x = x.length; y = y.length; z = z.length }) i
+slants_or text line vs i os = slants text.slants text.steps line vs os
+
+-- TRANS, or a point that is approached and left
 abbrev pub shifts_or : Text → Reached → ℕ → ℕ → List ℕ → List Offset → Bool → List Guarded
-shifts_or text r line e l os true = slants text.slants text.steps line r.variables os
+shifts_or text r line e l os true = slants_or text line r.variables (measured_index r.features r.measuring) os
 shifts_or text r line e l os false = shifts line e r.variables r.frames l os
 
 -- what a statement is put as
@@ -624,13 +700,13 @@ guards text r line e (form.Repeat rounds) = repeats line e r.variables rounds (l
 guards text r line e form.RepeatEnd = repeats_end line e (first_block r.blocks) r.assigned
 guards text r line e (form.Choose c) = chooses line e r.variables c
 guards text r line e form.ChooseEnd = chooses_end line e form.ChooseEnd (first_block r.blocks) r.assigned
-guards text r line e (form.Feature l p d) = features_or r line e l p d (spot_named l)
+guards text r line e (form.Feature l p d) = features_or text r line e l p d (spot_named l)
 guards text r line e (form.Measure l) = measures line
 guards text r line e (form.Touch p d) = touches text.steps line e r.variables r.features p d r.measuring
 guards text r line e form.MeasureEnd = measured line r.features r.measuring
 guards text r line e (form.Configure which value) = configures text.slants line e r.variables which value
 guards text r line e (form.Shift l os) = shifts_or text r line e l os (is_same_name slanted_name l)
-guards text r line e (form.Rotation l axis n) = turns_in line e r.frames l axis n
+guards text r line e (form.Rotation l axis n) = turns_in text.polar line e r.frames l axis n
 guards text r line e (form.Restore l) = recalls_at line e l (index_of r.frames l)
 guards text r line e (form.Query t side l word) = obtains_by line e r.variables r.features t side l word (variable_of r.variables t.expansion t.name)
 guards text r line e (form.Report side l) = reports_at line e side l (index_of r.features l)
@@ -681,7 +757,8 @@ reaches r line e f = noted (reaches_form r line e f) (effects_of f) (set_by r.va
 abbrev pub guards_from : Text → Reached → List Placed → List Guarded
 guards_from text r [] = []
 guards_from text r (p ∷ ps) =
-    guards text r p.statement.line p.expansion p.statement.form ++ guards_from text (reaches r p.statement.line p.expansion p.statement.form) ps
+    guards text r p.statement.line p.expansion (exact_form r.variables p.statement.form)
+    ++ guards_from text (reaches r p.statement.line p.expansion (exact_form r.variables p.statement.form)) ps
 
 -- ---- the whole text
 
@@ -745,8 +822,37 @@ is_slanted f = false
 abbrev pub is_slanted_placed : Placed → Bool
 is_slanted_placed p = is_slanted p.statement.form
 
--- what holds of a text: whether it has jumps, whether the machine's frame has a name of its own, whether it has places that are kept or steps, a FROM, steps, and
--- points that are approached and left
+-- whether there are three lengths
+abbrev pub are_three : List Offset → Bool
+are_three (x ∷ y ∷ z ∷ []) = true
+are_three os = false
+
+-- whether it is a point that is approached and left along the direction of its feature
+abbrev pub is_pointed : Form → Bool
+is_pointed (form.Shift l os) = are_three os && is_same_name slanted_name l
+is_pointed f = false
+
+-- the same of a statement in its expansion
+abbrev pub is_pointed_placed : Placed → Bool
+is_pointed_placed p = is_pointed p.statement.form
+
+-- whether an event is a polar place, or angles in another unit than decimal degrees
+abbrev pub is_polar_event : Option Event → Option Term → Bool
+is_polar_event (Some events.Polar) value = true
+is_polar_event (Some events.Angle) value = is_nothing value
+is_polar_event e value = false
+
+-- whether a statement is such an event
+abbrev pub is_polar : Form → Bool
+is_polar (form.Assignment t value) = is_polar_event (event_named t.name) (leaf_in value)
+is_polar f = false
+
+-- and so of a statement in its expansion
+abbrev pub is_polar_placed : Placed → Bool
+is_polar_placed p = is_polar p.statement.form
+
+-- what holds of a text: whether it has jumps, whether the machine's frame has a name of its own, whether it has places that are kept or steps, a FROM, steps, points that
+-- are approached and left, some of them along the directions of their features, polar places or angles in another unit, and whether values may be cut off
 abbrev pub text_of : List Placed → Text
 text_of ps = record {
   jumps = list_any is_jump_placed ps;
@@ -755,6 +861,9 @@ text_of ps = record {
   from = list_any is_from ps;
   steps = list_any is_step ps;
   slants = list_any is_slanted_placed ps;
+  pointed = list_any is_pointed_placed ps;
+  polar = list_any is_polar_placed ps;
+  cut = list_any is_cut_placed ps;
 }
 
 -- a value at the start
@@ -785,8 +894,13 @@ keeps_machine false = []
 unfoldable pub opening : List Guarded
 opening = map (λ c. opens c (pos 1)) known_first ++ opens carried.Place (pos 2) ∷ []
 
+-- angles in decimal degrees and the plane of X and Y are known at the start, in a text that asks for them
+unfoldable pub opens_polar : Bool → List Guarded
+opens_polar true = opens carried.Angle (pos 1) ∷ opens carried.Plane (pos 1) ∷ []
+opens_polar false = []
+
 -- what a text is put as
 abbrev pub guarded : List Placed → List Guarded
 guarded ps =
     declares_carried ++ (declares_kept (text_of ps).spots ++ (declares_slanted (text_of ps).slants ++ (keeps_machine (text_of ps).machine
-    ++ (opening ++ guards_from (text_of ps) begun ps))))
+    ++ (opening ++ (opens_polar (text_of ps).polar ++ guards_from (text_of ps) (begun_in (text_of ps).cut) ps)))))

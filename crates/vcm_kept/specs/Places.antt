@@ -49,6 +49,11 @@ unfoldable pub point_asks : Source
 point_asks = both motion_asks (are_current
     (carried.OwnPoints ∷ carried.Approach ∷ carried.Search ∷ carried.Retract ∷ carried.Clearance ∷ carried.Compensation ∷ carried.Qualification ∷ []))
 
+-- for a point that is approached and left, which has no search
+unfoldable pub approach_asks : Source
+approach_asks = both motion_asks (are_current
+    (carried.OwnPoints ∷ carried.Approach ∷ carried.Retract ∷ carried.Clearance ∷ carried.Compensation ∷ carried.Qualification ∷ []))
+
 -- behind GOTARG the machine may go by its own ways, where it may take points of its own
 abbrev pub aimed : Bool → Source → Source
 aimed true e = both e (is_current carried.OwnPoints)
@@ -182,25 +187,25 @@ left_behind steps line =
     ∷ elsewhere line ∷ (untried_point line ++ ends line ∷ []))
 
 -- a point that is approached from one place and left to another
-unfoldable pub approaches_known : Bool → ℕ → List Variable → (p a r : Coordinates) → List Guarded
-approaches_known steps line vs p a r =
-    asks_point line vs point_asks p ++ stands line 0 (form.Move a) ∷ stands line 0 (form.Move r) ∷ left_behind steps line
+unfoldable pub approaches_known : Bool → ℕ → List Variable → Source → (p a r : Coordinates) → List Guarded
+approaches_known steps line vs known p a r =
+    asks_point line vs known p ++ stands line 0 (form.Move a) ∷ stands line 0 (form.Move r) ∷ left_behind steps line
 
 -- the same, if there are such places
-abbrev pub approaches_by : Bool → ℕ → List Variable → Coordinates → (a r : Option Coordinates) → List Guarded
-approaches_by steps line vs p (Some a) (Some r) = approaches_known steps line vs p a r
-approaches_by steps line vs p a r = untried_point line
+abbrev pub approaches_by : Bool → ℕ → List Variable → Source → Coordinates → (a r : Option Coordinates) → List Guarded
+approaches_by steps line vs known p (Some a) (Some r) = approaches_known steps line vs known p a r
+approaches_by steps line vs known p a r = untried_point line
 
--- a point with its direction
-abbrev pub approaches : Bool → ℕ → List Variable → (p d : Coordinates) → List Guarded
-approaches steps line vs p d =
-    if has_place vs p then approaches_by steps line vs p (before lengths.Approach p d) (before lengths.Retract p d) else untried_point line
+-- a point with its direction, where this is known
+abbrev pub approaches : Bool → ℕ → List Variable → Source → (p d : Coordinates) → List Guarded
+approaches steps line vs known p d =
+    if has_place vs p then approaches_by steps line vs known p (before lengths.Approach p d) (before lengths.Retract p d) else untried_point line
 
 -- a slanted point, by its three coordinates and the three components of its direction; what has one length alone says how wide the tip is
 abbrev pub slants : (slanted steps : Bool) → ℕ → List Variable → List Offset → List Guarded
 slants true steps line vs (w ∷ []) = set_length line lengths.Tip w.length ∷ []
 slants true steps line vs (x ∷ y ∷ z ∷ i ∷ j ∷ k ∷ []) =
-    approaches steps line vs (record { x = x.length; y = y.length; z = z.length }) (record { x = i.length; y = j.length; z = k.length })
+    approaches steps line vs approach_asks (record { x = x.length; y = y.length; z = z.length }) (record { x = i.length; y = j.length; z = k.length })
 slants slanted steps line vs os = []
 
 -- the length of a setting, where a text has slanted points

@@ -4,9 +4,13 @@ ghost use Rattle.std.specs.Prelude.{◌≡◌, ◌++◌, ◌∷◌, [], map, pos
 ghost use Rattle.vcm_forms.specs.declared.statement.Form.TheVariants as form;
 ghost use Rattle.vcm_templates.specs.Templates.{stands, elsewhere, ends, untried_point};
 ghost use Rattle.vcm_templates.specs.Carried.{carried_name};
-ghost use Rattle.vcm_kept.specs.Places.{kept_frames, has_place, along, ahead, added, before, left_behind, approaches_known, approaches_by, approaches, slants, keeps_setting, length_names, declares_kept, declares_slanted};
+ghost use Rattle.vcm_templates.specs.Expressions.{both as both_of};
+ghost use Rattle.vcm_kept.specs.Guarding.{is_nominal, direction_in, approaches_feature, slants_or};
+ghost use Rattle.vcm_kept.specs.Places.{kept_frames, has_place, approach_asks, along, ahead, added, before, left_behind, approaches_known, approaches_by, approaches, slants, keeps_setting, length_names, declares_kept, declares_slanted};
 
-use crate::places::{ask_point, copied, has_place, lose_track, point_asks, set_length, step_at};
+use crate::places::{approach_asks, ask_point, copied, has_place, lose_track, set_length, step_at};
+use crate::points::is_nominal;
+use crate::text::Text;
 use std::alloc::Global;
 use vcm_events::{join, pair};
 use vcm_expr::{BinaryOp, Expr, Names};
@@ -16,8 +20,8 @@ use vcm_num::{Items, Kind, NoMemory};
 use vcm_remarks::Remark;
 use vcm_spec::Setting;
 use vcm_templates::{
-    Carried, Guarded, IMPLICIT, Length, elsewhere, end, number, raise, remark, set_number, stand,
-    untried_point,
+    Carried, Guarded, IMPLICIT, Item, Length, both, elsewhere, end, number, raise, remark,
+    set_number, stand, untried_point,
 };
 
 // So many thousandths of a length.
@@ -92,13 +96,14 @@ fn approach_known(
     steps: bool,
     line: u32,
     names: &Names,
+    asked: Expr,
     place: &Coordinates,
     first: Coordinates,
     second: Coordinates,
 ) -> Result<(), NoMemory>
-    ensures { OnOk result (out.new.items ≡ out.old.items ++ approaches_known steps line names.now place.now first second) }
+    ensures { OnOk result (out.new.items ≡ out.old.items ++ approaches_known steps line names.now asked place.now first second) }
 {
-    ask_point(alloc, out, line, names, point_asks(alloc)?, place)?;
+    ask_point(alloc, out, line, names, asked, place)?;
     stand(out, line, 0, Form::Move(first))?;
     stand(out, line, 0, Form::Move(second))?;
     leave_behind(alloc, out, steps, line)
@@ -111,38 +116,40 @@ fn approach_by(
     steps: bool,
     line: u32,
     names: &Names,
+    asked: Expr,
     place: &Coordinates,
     first: Option<Coordinates>,
     second: Option<Coordinates>,
 ) -> Result<(), NoMemory>
-    ensures { OnOk result (out.new.items ≡ out.old.items ++ approaches_by steps line names.now place.now first second) }
+    ensures { OnOk result (out.new.items ≡ out.old.items ++ approaches_by steps line names.now asked place.now first second) }
 {
     match (first, second) {
         (Some(first), Some(second)) => {
-            approach_known(alloc, out, steps, line, names, place, first, second)
+            approach_known(alloc, out, steps, line, names, asked, place, first, second)
         }
         _ => untried_point(alloc, out, line),
     }
 }
 
-// A point with its direction.
-fn approach(
+// A point with its direction, where this is known.
+fn approach_where(
     alloc: Global,
     out: &mut Vec<Guarded>,
     steps: bool,
     line: u32,
     names: &Names,
+    asked: Expr,
     place: &Coordinates,
     direction: &Coordinates,
 ) -> Result<(), NoMemory>
-    ensures { OnOk result (out.new.items ≡ out.old.items ++ approaches steps line names.now place.now direction.now) }
+    ensures { OnOk result (out.new.items ≡ out.old.items ++ approaches steps line names.now asked place.now direction.now) }
 {
     if !has_place(alloc, names, place)? {
         return untried_point(alloc, out, line);
     }
     let first = before(alloc, Length::Approach, place, direction)?;
     let second = before(alloc, Length::Retract, place, direction)?;
-    approach_by(alloc, out, steps, line, names, place, first, second)
+    approach_by(alloc, out, steps, line, names, asked, place, first, second)
 }
 
 // Three lengths as a place.
@@ -153,6 +160,22 @@ fn place_of(alloc: Global, x: &Offset, y: &Offset, z: &Offset) -> Result<Coordin
     let y = copied(alloc, &y.length)?;
     let z = copied(alloc, &z.length)?;
     Ok(Coordinates { x, y, z })
+}
+
+// A slanted point, with its direction.
+fn approach(
+    alloc: Global,
+    out: &mut Vec<Guarded>,
+    steps: bool,
+    line: u32,
+    names: &Names,
+    place: &Coordinates,
+    direction: &Coordinates,
+) -> Result<(), NoMemory>
+    ensures { OnOk result (out.new.items ≡ out.old.items ++ approaches steps line names.now approach_asks place.now direction.now) }
+{
+    let asked = approach_asks(alloc)?;
+    approach_where(alloc, out, steps, line, names, asked, place, direction)
 }
 
 // Six lengths as a place and a direction.
@@ -172,8 +195,8 @@ fn directed(
     Ok((place, direction))
 }
 
-/// A slanted point, by its three coordinates and the three components of its direction; what has one length alone says how wide the tip is.
-pub(crate) fn slant(
+// A slanted point, by its three coordinates and the three components of its direction; what has one length alone says how wide the tip is.
+fn slant(
     alloc: Global,
     out: &mut Vec<Guarded>,
     slanted: bool,
@@ -194,6 +217,95 @@ pub(crate) fn slant(
             approach(alloc, out, steps, line, names, &directed.0, &directed.1)
         }
         _ => Ok(()),
+    }
+}
+
+// The direction of the feature at an index, as it is carried.
+fn direction_in(index: u16) -> Coordinates
+    ensures { result ≡ direction_in index }
+{
+    Coordinates {
+        x: Expr::leaf(Item::AlongX.term(index)),
+        y: Expr::leaf(Item::AlongY.term(index)),
+        z: Expr::leaf(Item::AlongZ.term(index)),
+    }
+}
+
+// What has to be known for a point along the direction of the feature at an index.
+fn feature_asks(alloc: Global, index: u16) -> Result<Expr, NoMemory>
+    ensures { IfOk result (λ e. e ≡ both_of approach_asks (is_nominal index)) }
+{
+    both(alloc, &approach_asks(alloc)?, &is_nominal(alloc, index)?)
+}
+
+// A point along the direction of the feature at an index.
+fn approach_along(
+    alloc: Global,
+    out: &mut Vec<Guarded>,
+    steps: bool,
+    line: u32,
+    names: &Names,
+    place: &Coordinates,
+    index: u16,
+) -> Result<(), NoMemory>
+    ensures { OnOk result (out.new.items ≡ out.old.items ++ approaches steps line names.now (both_of approach_asks (is_nominal index)) place.now (direction_in index)) }
+{
+    let asked = feature_asks(alloc, index)?;
+    let direction = direction_in(index);
+    approach_where(alloc, out, steps, line, names, asked, place, &direction)
+}
+
+// A point that is approached and left along the direction of the feature that is measured.
+fn approach_feature(
+    alloc: Global,
+    out: &mut Vec<Guarded>,
+    steps: bool,
+    line: u32,
+    names: &Names,
+    place: &Coordinates,
+    index: Option<u16>,
+) -> Result<(), NoMemory>
+    ensures { OnOk result (out.new.items ≡ out.old.items ++ approaches_feature steps line names.now place.now index) }
+{
+    match index {
+        Some(index) => approach_along(alloc, out, steps, line, names, place, index),
+        None => untried_point(alloc, out, line),
+    }
+}
+
+// The same, by its three coordinates.
+fn approach_three(
+    alloc: Global,
+    out: &mut Vec<Guarded>,
+    steps: bool,
+    line: u32,
+    names: &Names,
+    index: Option<u16>,
+    x: &Offset,
+    y: &Offset,
+    z: &Offset,
+) -> Result<(), NoMemory>
+    ensures { OnOk result (out.new.items ≡ out.old.items ++ approaches_feature steps line names.now (record { x = x.now.length; y = y.now.length; z = z.now.length }) index) }
+{
+    let place = place_of(alloc, x, y, z)?;
+    approach_feature(alloc, out, steps, line, names, &place, index)
+}
+
+/// A slanted point, or one along the direction of its feature, which is said by its three coordinates alone.
+pub(crate) fn slant_or(
+    alloc: Global,
+    out: &mut Vec<Guarded>,
+    text: Text,
+    line: u32,
+    names: &Names,
+    index: Option<u16>,
+    legs: &[Offset],
+) -> Result<(), NoMemory>
+    ensures { OnOk result (out.new.items ≡ out.old.items ++ slants_or text line names.now index legs.now) }
+{
+    match legs {
+        [x, y, z] => approach_three(alloc, out, text.steps, line, names, index, x, y, z),
+        _ => slant(alloc, out, text.slants, text.steps, line, names, legs),
     }
 }
 

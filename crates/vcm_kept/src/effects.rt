@@ -13,7 +13,7 @@ ghost use Rattle.vcm_events.specs.Events.{event_named};
 ghost use Rattle.vcm_events.specs.Spots.{spot_named};
 ghost use Rattle.vcm_templates.specs.Expressions.{number};
 ghost use Rattle.vcm_templates.specs.Templates.{untried, lose_all};
-ghost use Rattle.vcm_kept.specs.Effects.{no_effects, either_effects, may_move, may_turn, may_select, may_set, may_frame, may_declare, may_measure, may_keep, event_effects, assignment_effects, feature_effects, effects_of, listed_index, set_by, where_may, lose_motions, lose_machine, lose_sensor, lose_settings, lose_frames, lose_kept, lose_index, lose_state, lose_saved, lose_effects, lose_block};
+ghost use Rattle.vcm_kept.specs.Effects.{no_effects, either_effects, may_move, may_turn, may_select, may_set, may_frame, may_declare, may_measure, may_keep, may_plane, event_effects, assignment_effects, feature_effects, effects_of, listed_index, set_by, where_may, lose_motions, lose_machine, lose_sensor, lose_settings, lose_frames, lose_kept, lose_planes, lose_index, lose_state, lose_saved, lose_effects, lose_block};
 
 use crate::places::forget;
 use std::alloc::Global;
@@ -24,8 +24,8 @@ use vcm_items::Name;
 use vcm_num::NoMemory;
 use vcm_remarks::Cause;
 use vcm_templates::{
-    Carried, FEATURES_STEP, Guarded, Item, Kept, go_to_end, lose, lose_all, lose_frame, lose_item,
-    raise, set, set_number, untried,
+    Carried, FEATURES_STEP, Guarded, Item, Kept, UNKNOWN_SENSOR, go_to_end, lose, lose_all,
+    lose_frame, lose_item, raise, set, set_number, untried,
 };
 
 /// What statements may do.
@@ -47,6 +47,8 @@ pub struct Effects {
     pub values: bool,
     /// They may set where GOHOME and ENDGO go to.
     pub spots: bool,
+    /// They may change the plane of polar places, or the unit of angles.
+    pub planes: bool,
     /// They may go on elsewhere in the text.
     pub leaves: bool,
     /// They may do anything.
@@ -80,6 +82,7 @@ impl Effects {
             features: false,
             values: false,
             spots: false,
+            planes: false,
             leaves: false,
             all: false,
         }
@@ -98,6 +101,7 @@ impl Effects {
             features: either(self.features, other.features),
             values: either(self.values, other.values),
             spots: either(self.spots, other.spots),
+            planes: either(self.planes, other.planes),
             leaves: either(self.leaves, other.leaves),
             all: either(self.all, other.all),
         }
@@ -177,6 +181,15 @@ impl Effects {
         effects
     }
 
+    // A change of what polar places hang on.
+    fn plane() -> Effects
+        ensures { result ≡ may_plane }
+    {
+        let mut effects = Effects::none();
+        effects.planes = true;
+        effects
+    }
+
     // Values of any variables.
     fn value() -> Effects
         ensures { result ≡ record no_effects { values = true } }
@@ -219,6 +232,10 @@ impl Effects {
             Event::Values => Effects::value(),
             Event::Features => Effects::declaration(),
             Event::Frames | Event::Frame | Event::Saving | Event::Machine => Effects::frame(),
+            Event::Angle | Event::Plane => Effects::plane(),
+            Event::Polar => Effects::none(),
+            Event::PolarMotion => Effects::motion(),
+            Event::PolarPoint => Effects::measurement(),
             Event::Ends => Effects::jump(),
             Event::All => Effects::anything(),
         }
@@ -336,7 +353,7 @@ fn lose_sensor(out: &mut Vec<Guarded>, line: u32, may: bool) -> Result<(), NoMem
         return Ok(());
     }
     set_number(out, line, Carried::Place, 0)?;
-    set_number(out, line, Carried::Sensor, 0)
+    set_number(out, line, Carried::Sensor, UNKNOWN_SENSOR)
 }
 
 // The distances aren't.
@@ -409,6 +426,18 @@ fn lose_kept(out: &mut Vec<Guarded>, line: u32, may: bool) -> Result<(), NoMemor
     forget(out, line, Kept::Target)
 }
 
+// What polar places hang on isn't.
+#[tactic(auto, unfolding(crate::specs::Effects::lose_planes))]
+fn lose_planes(out: &mut Vec<Guarded>, line: u32, may: bool) -> Result<(), NoMemory>
+    ensures { OnOk result (out.new.items ≡ out.old.items ++ where_may may (lose_planes line)) }
+{
+    if !may {
+        return Ok(());
+    }
+    set_number(out, line, Carried::Angle, 0)?;
+    set_number(out, line, Carried::Plane, 0)
+}
+
 // The values of these variables aren't.
 fn lose_indices(out: &mut Vec<Guarded>, line: u32, indices: &[u16]) -> Result<(), NoMemory>
     ensures { OnOk result (out.new.items ≡ out.old.items ++ flat_map (lose_index line) indices.now) }
@@ -443,7 +472,8 @@ fn lose_saved(
     lose_frames(out, line, effects.frames)?;
     lose_features(alloc, out, line, effects.features)?;
     lose_values(alloc, out, line, effects.values)?;
-    lose_kept(out, line, effects.spots)
+    lose_kept(out, line, effects.spots)?;
+    lose_planes(out, line, effects.planes)
 }
 
 // All that they may have done, and the variables that they set.

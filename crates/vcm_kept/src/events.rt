@@ -5,8 +5,9 @@ ghost use Rattle.vcm_expr.specs.Source.{Plain, leaf_in};
 ghost use Rattle.vcm_events.specs.Events.{event_named};
 ghost use Rattle.vcm_templates.specs.Expressions.{number};
 ghost use Rattle.vcm_templates.specs.declared.carried.Carried.TheVariants as carried;
-ghost use Rattle.vcm_templates.specs.Templates.{elsewhere, ends, set, untried, lose_all};
-ghost use Rattle.vcm_kept.specs.Guarding.{is_nothing, turns_machine, turns_state, selects, unselected, selects_number, selects_by, wants_points, machine_name, recalls_machine, happens, assigns_or};
+ghost use Rattle.vcm_forms.specs.declared.statement.Form.TheVariants as form;
+ghost use Rattle.vcm_templates.specs.Templates.{stands, elsewhere, ends, set, untried, untried_point, lose_all};
+ghost use Rattle.vcm_kept.specs.Guarding.{is_nothing, turns_machine, turns_state, changes_sensor, selects, unselected, selects_number, selects_by, wants_points, machine_name, recalls_machine, polar_asks, turns_polar, happens, assigns_or};
 
 use crate::places::go_to_target;
 use crate::text::Text;
@@ -17,11 +18,11 @@ use vcm_expr::{BinaryOp, Expr, Names, Relation, Term, Want};
 use vcm_forms::{Form, Target};
 use vcm_items::Name;
 use vcm_num::{Literal, NoMemory};
-use vcm_remarks::Cause;
+use vcm_remarks::{Cause, Remark};
 use vcm_templates::{
-    Carried, FEATURES_STEP, Guarded, ask, ask_all, elsewhere, end, go_to_end, has_form, know, lose,
-    lose_all, lose_frame, new_frame, number, raise, set, set_number, stand, truth, untried,
-    untried_point, where_known,
+    Carried, FEATURES_STEP, Guarded, UNKNOWN_SENSOR, are_current, ask, ask_all, elsewhere, end,
+    go_to_end, has_form, know, lose, lose_all, lose_frame, new_frame, number, raise, remark, set,
+    set_number, stand, truth, untried, untried_point, where_known,
 };
 
 /// The name of the machine's frame.
@@ -31,8 +32,8 @@ pub(crate) fn machine_name() -> Name
     Name::new(b"________________")
 }
 
-// Whether a number is 0; what is no number counts as that.
-fn is_nothing(value: &Expr) -> bool
+/// Whether a number is 0; what is no number counts as that.
+pub(crate) fn is_nothing(value: &Expr) -> bool
     ensures { result ≡ is_nothing (leaf_in value.now) }
 {
     match value.as_leaf() {
@@ -76,24 +77,40 @@ fn turn_state(
     }
 }
 
-// Another sensor than the one that is selected.
+// Another sensor, or one that may be another.
+#[tactic(auto, unfolding(crate::specs::Guarding::changes_sensor))]
+fn change_sensor(
+    alloc: Global,
+    out: &mut Vec<Guarded>,
+    line: u32,
+    sensor: Expr,
+) -> Result<(), NoMemory>
+    ensures { OnOk result (out.new.items ≡ out.old.items ++ changes_sensor line sensor) }
+{
+    let op = BinaryOp::Compare(Relation::NotEqual);
+    let selected = pair(alloc, op, Carried::Sensor.term(), number(0))?;
+    set_number(out, line, Carried::Place, 0)?;
+    stand(out, line, 0, Form::Test(selected))?;
+    let stands = Form::Assignment(Carried::Place.target(), Expr::leaf(number(0)));
+    remark(out, line, 0, stands, Remark::AnotherTip)?;
+    end(out, line)?;
+    set(out, line, Carried::Sensor, sensor)
+}
+
+// A sensor by its number, which is another one than that of before, as a test tells.
 #[tactic(auto, unfolding(crate::specs::Guarding::selects))]
-fn select(out: &mut Vec<Guarded>, line: u32, test: Expr, sensor: Expr) -> Result<(), NoMemory>
+fn select(
+    alloc: Global,
+    out: &mut Vec<Guarded>,
+    line: u32,
+    test: Expr,
+    sensor: Expr,
+) -> Result<(), NoMemory>
     ensures { OnOk result (out.new.items ≡ out.old.items ++ selects line test sensor) }
 {
     stand(out, line, 0, Form::Test(test))?;
-    set_number(out, line, Carried::Place, 0)?;
-    set(out, line, Carried::Sensor, sensor)?;
+    change_sensor(alloc, out, line, sensor)?;
     end(out, line)
-}
-
-// A sensor that isn't known.
-#[tactic(auto, unfolding(crate::specs::Guarding::unselected))]
-fn unselect(out: &mut Vec<Guarded>, line: u32) -> Result<(), NoMemory>
-    ensures { OnOk result (out.new.items ≡ out.old.items ++ unselected line) }
-{
-    set_number(out, line, Carried::Place, 0)?;
-    set_number(out, line, Carried::Sensor, 0)
 }
 
 // The sensor of a number.
@@ -113,7 +130,7 @@ fn select_number(
     };
     let op = BinaryOp::Compare(Relation::NotEqual);
     let test = pair(alloc, op, Carried::Sensor.term(), sensor)?;
-    select(out, line, test, Expr::leaf(again))
+    select(alloc, out, line, test, Expr::leaf(again))
 }
 
 // A sensor, in an expansion.
@@ -129,7 +146,7 @@ fn select_by(
     if expansion == 0 && !is_nothing(value) {
         select_number(alloc, out, line, value)
     } else {
-        unselect(out, line)
+        change_sensor(alloc, out, line, Expr::leaf(number(UNKNOWN_SENSOR)))
     }
 }
 
@@ -180,6 +197,56 @@ fn recall_machine(
     } else {
         lose_frame(out, line)
     }
+}
+
+// What polar places hang on.
+#[tactic(auto, unfolding(crate::specs::Guarding::polar_asks))]
+fn polar_asks(alloc: Global) -> Result<Expr, NoMemory>
+    ensures { IfOk result (λ e. e ≡ polar_asks) }
+{
+    are_current(alloc, &[Carried::Angle, Carried::Plane])
+}
+
+// One of these is lost, or known again, in a text that asks for it.
+fn turn_polar(
+    out: &mut Vec<Guarded>,
+    line: u32,
+    polar: bool,
+    carried: Carried,
+    value: &Expr,
+) -> Result<(), NoMemory>
+    ensures { OnOk result (out.new.items ≡ out.old.items ++ turns_polar polar line carried (is_nothing (leaf_in value.now))) }
+{
+    if polar {
+        turn_state(out, line, carried, Cause::Value, value)
+    } else {
+        Ok(())
+    }
+}
+
+// A polar place begins.
+fn begin_polar(alloc: Global, out: &mut Vec<Guarded>, line: u32) -> Result<(), NoMemory>
+    ensures { OnOk result (out.new.items ≡ out.old.items ++ stands line 0 (form.Test polar_asks) ∷ []) }
+{
+    stand(out, line, 0, Form::Test(polar_asks(alloc)?))
+}
+
+// A motion by a polar place ends.
+fn end_motion(out: &mut Vec<Guarded>, line: u32) -> Result<(), NoMemory>
+    ensures { OnOk result (out.new.items ≡ out.old.items ++ elsewhere line ∷ untried line ∷ ends line ∷ []) }
+{
+    elsewhere(out, line)?;
+    untried(out, line)?;
+    end(out, line)
+}
+
+// A point by a polar place ends.
+fn end_point(alloc: Global, out: &mut Vec<Guarded>, line: u32) -> Result<(), NoMemory>
+    ensures { OnOk result (out.new.items ≡ out.old.items ++ elsewhere line ∷ (untried_point line ++ ends line ∷ [])) }
+{
+    elsewhere(out, line)?;
+    untried_point(alloc, out, line)?;
+    end(out, line)
 }
 
 // What a statement does isn't known, nor anything behind it.
@@ -233,6 +300,11 @@ fn happen(
         Event::Machine => recall_machine(alloc, out, line, text.machine),
         Event::Points => want_points(alloc, out, line, names, value),
         Event::Sensor => select_by(alloc, out, line, expansion, v),
+        Event::Angle => turn_polar(out, line, text.polar, Carried::Angle, v),
+        Event::Plane => turn_polar(out, line, text.polar, Carried::Plane, v),
+        Event::Polar => begin_polar(alloc, out, line),
+        Event::PolarMotion => end_motion(out, line),
+        Event::PolarPoint => end_point(alloc, out, line),
         Event::Ends => go_to_end(out, line),
         Event::All => lose_everything(alloc, out, line),
     }

@@ -7,7 +7,7 @@ ghost use Rattle.vcm_expr.specs.declared.typing.Want.TheVariants as wants;
 ghost use Rattle.vcm_forms.specs.declared.statement.Form.TheVariants as form;
 ghost use Rattle.vcm_remarks.specs.declared.remark.Cause.TheVariants as causes;
 ghost use Rattle.vcm_templates.specs.Templates.{asks, asks_all, where_known, stands, elsewhere, lose, know, ends, frame_gone};
-ghost use Rattle.vcm_kept.specs.Guarding.{carried_setting, configures, setting_where, declares_frame, made_where, found_in, has_shifts, has_shift, asks_shifts, shifts_in, shifts, turns_in, recalls_at, recalled_where, with_known};
+ghost use Rattle.vcm_kept.specs.Guarding.{carried_setting, configures, setting_where, declares_frame, made_where, found_in, has_shifts, has_shift, asks_shifts, shifts_in, shifts, turn_asks, turns_in, recalls_at, recalled_where, with_known};
 
 use crate::approaches::keep_setting;
 use crate::places::{copied, length_asks};
@@ -22,8 +22,9 @@ use vcm_program::Titles;
 use vcm_remarks::Cause;
 use vcm_spec::{FrameAxis, Quarters, Setting};
 use vcm_templates::{
-    Carried, Guarded, Item, are_current, ask, ask_all, declare_item, elsewhere, end, frame_gone,
-    has_form, know, knows_frame, lose, lose_frame, save_frame, set, stand, where_known,
+    Carried, Guarded, Item, are_current, ask, ask_all, both, declare_item, elsewhere, end,
+    frame_gone, has_form, is_current, know, knows_frame, lose, lose_frame, save_frame, set, stand,
+    where_known,
 };
 
 // The variable of a setting.
@@ -203,10 +204,23 @@ pub(crate) fn shift(
     }
 }
 
+// What has to be known for a turn.
+fn turn_asks(alloc: Global, angles: bool) -> Result<Expr, NoMemory>
+    ensures { IfOk result (λ e. e ≡ turn_asks angles) }
+{
+    let asked = length_asks(alloc)?;
+    if angles {
+        both(alloc, &asked, &is_current(alloc, Carried::Angle)?)
+    } else {
+        Ok(asked)
+    }
+}
+
 /// ROTATE.
 pub(crate) fn rotate(
     alloc: Global,
     out: &mut Vec<Guarded>,
+    angles: bool,
     line: u32,
     expansion: u32,
     frames: &mut Titles,
@@ -214,7 +228,7 @@ pub(crate) fn rotate(
     axis: FrameAxis,
     turns: Quarters,
 ) -> Result<(), NoMemory>
-    ensures put { OnOk result (out.new.items ≡ out.old.items ++ turns_in line expansion frames.old label axis turns) }
+    ensures put { OnOk result (out.new.items ≡ out.old.items ++ turns_in angles line expansion frames.old label axis turns) }
     ensures frames { OnOk result (frames.new ≡ with_known frames.old label) }
 {
     let was = index_among(frames, &label);
@@ -222,7 +236,7 @@ pub(crate) fn rotate(
         return stand(out, line, expansion, Form::Rotation(label, axis, turns));
     };
     declare_carried(alloc, out, line, index, was)?;
-    ask(out, line, length_asks(alloc)?)?;
+    ask(out, line, turn_asks(alloc, angles)?)?;
     where_known(out, line)?;
     stand(out, line, expansion, Form::Rotation(label, axis, turns))?;
     made_where(alloc, out, line, index)

@@ -7,20 +7,24 @@ ghost use Rattle.std.specs.Prelude.{ℕ};
 ghost use Rattle.vcm_spec.specs.Program.{is_same_name};
 ghost use Rattle.vcm_forms.specs.declared.statement.Coordinates.{Coordinates as Place};
 ghost use Rattle.vcm_forms.specs.declared.statement.Form.TheVariants as form;
+ghost use Rattle.vcm_expr.specs.Source.{leaf_in};
+ghost use Rattle.vcm_events.specs.Events.{event_named};
 ghost use Rattle.vcm_events.specs.Spots.{spot_named, slanted_name};
 ghost use Rattle.vcm_kept.specs.Effects.{listed_index};
-ghost use Rattle.vcm_kept.specs.Guarding.{spots_by, features_or, shifts_or, reaches_spot, reaches_feature, reaches_shift, spot_in, is_spotted, is_from, is_step, is_slanted_placed, has_several, block, opened, noted, reaches_form, begun, guards, reaches, guards_from, is_jump_placed, names_machine_placed, first_names, last_names, text_of, opens, declares_carried, keeps_machine, opening, guarded, measures, measured};
+ghost use Rattle.vcm_kept.specs.Guarding.{spots_by, features_or, shifts_or, reaches_spot, reaches_feature, reaches_shift, spot_in, is_spotted, is_from, is_step, is_slanted_placed, has_several, is_pointed_placed, are_three, is_polar_event, is_polar_placed, opens_polar, block, opened, noted, reaches_form, begun, guards, reaches, guards_from, is_jump_placed, names_machine_placed, first_names, last_names, text_of, opens, declares_carried, keeps_machine, opening, guarded, measures, measured, first_variables};
+ghost use Rattle.vcm_kept.specs.Exactly.{exact_form, is_cut_placed};
 ghost use Rattle.vcm_kept.specs.inner.Reaching.{reached, is_block, is_other, is_state};
 
-use crate::approaches::{declare_kept, declare_slanted, slant};
+use crate::approaches::{declare_kept, declare_slanted, slant_or};
 use crate::blocks::{
     choose, end_block, end_choice, end_program, end_repeat, loops_by, repeat, test,
 };
 use crate::effects::{Effects, set_by};
-use crate::events::{assign_or, machine_name};
+use crate::events::{assign_or, is_nothing, machine_name};
+use crate::exactly::{exact_form, has_cut};
 use crate::frames::{configure, recall, rotate, shift};
 use crate::places::{go_home, go_to, keep, step_by};
-use crate::points::{declare, end_measure, measure, touch};
+use crate::points::{declare, end_measure, measure, measured_index, touch};
 use crate::reached::{OpenBlock, begin_block, note_effects};
 use crate::text::Text;
 use crate::values::{obtain, report};
@@ -36,7 +40,7 @@ use vcm_num::{Axis, Items, Kind, Literal, NoMemory, is};
 use vcm_program::Titles;
 use vcm_remarks::Cause;
 use vcm_spec::FrameAxis;
-use vcm_templates::{Carried, Guarded, IMPLICIT, Kept, lose, set_number, stand};
+use vcm_templates::{Carried, Guarded, IMPLICIT, Item, Kept, lose, set_number, stand};
 
 /// What statements leave behind them in writing.
 #[derive(Drop)]
@@ -154,16 +158,9 @@ fn guard_shift(
     ensures above { OnOk result (reached above.new ≡ reaches_shift (reached above.old) label offsets (is_same_name slanted_name label)) }
 {
     if slanted_name() == label {
+        let index = measured_index(&above.features, &above.measuring);
         let legs = offsets.as_slice();
-        return slant(
-            alloc,
-            out,
-            text.slants,
-            text.steps,
-            line,
-            &above.names,
-            legs,
-        );
+        return slant_or(alloc, out, text, line, &above.names, index, legs);
     }
     let names = &above.names;
     shift(
@@ -201,7 +198,8 @@ fn guard_state(
             guard_shift(alloc, out, text, above, line, e, label, offsets)
         }
         Form::Rotation(label, axis, turns) => {
-            rotate(alloc, out, line, e, &mut above.frames, label, axis, turns)
+            let frames = &mut above.frames;
+            rotate(alloc, out, text.polar, line, e, frames, label, axis, turns)
         }
         Form::Restore(label) => recall(alloc, out, line, e, &above.frames, label),
         Form::Query(target, side, label, word) => {
@@ -312,6 +310,7 @@ fn aim(above: &mut Above, spot: Spot)
 fn guard_feature(
     alloc: Global,
     out: &mut Vec<Guarded>,
+    text: Text,
     above: &mut Above,
     line: u32,
     expansion: u32,
@@ -319,7 +318,7 @@ fn guard_feature(
     place: Coordinates,
     axis: Axis,
 ) -> Result<(), NoMemory>
-    ensures put { OnOk result (out.new.items ≡ out.old.items ++ features_or (reached above.old) line expansion label place axis (spot_named label)) }
+    ensures put { OnOk result (out.new.items ≡ out.old.items ++ features_or text (reached above.old) line expansion label place axis (spot_named label)) }
     ensures above { OnOk result (reached above.new ≡ reaches_feature (reached above.old) label place (spot_named label)) }
 {
     if let Some(spot) = Spot::named(label.as_bytes()) {
@@ -331,6 +330,7 @@ fn guard_feature(
     declare(
         alloc,
         out,
+        text.pointed,
         line,
         expansion,
         names,
@@ -370,7 +370,7 @@ fn guard(
         }
         Form::Home => go_home(alloc, out, text.from, text.steps, line, e),
         Form::Feature(label, place, axis) => {
-            guard_feature(alloc, out, above, line, e, label, place, axis)
+            guard_feature(alloc, out, text, above, line, e, label, place, axis)
         }
         Form::Measure(label) => begin_measure(out, line, above, label),
         Form::Touch(place, given) => {
@@ -412,12 +412,12 @@ fn guard_placed(
     above: &mut Above,
     placed: Placed,
 ) -> Result<(), NoMemory>
-    ensures put { OnOk result (out.new.items ≡ out.old.items ++ guards text (reached above.old) placed.statement.line placed.expansion placed.statement.form) }
-    ensures above { OnOk result (reached above.new ≡ reaches (reached above.old) placed.statement.line placed.expansion placed.statement.form) }
+    ensures put { OnOk result (out.new.items ≡ out.old.items ++ guards text (reached above.old) placed.statement.line placed.expansion (exact_form above.old.names placed.statement.form)) }
+    ensures above { OnOk result (reached above.new ≡ reaches (reached above.old) placed.statement.line placed.expansion (exact_form above.old.names placed.statement.form)) }
 {
     let line = placed.statement.line;
     let expansion = placed.expansion;
-    let form = placed.statement.form;
+    let form = exact_form(alloc, &above.names, placed.statement.form)?;
     let effects = Effects::of(&form);
     let index = set_by(&above.names, &form);
     guard(alloc, out, text, above, line, expansion, form)?;
@@ -528,6 +528,44 @@ fn has_several(offsets: &[Offset]) -> bool
     offsets.len() >= 2
 }
 
+// Whether a statement is a point that is approached and left along the direction of its feature.
+fn is_pointed(placed: &Placed) -> bool
+    ensures { result ≡ is_pointed_placed placed.now }
+{
+    match &placed.statement.form {
+        Form::Shift(label, offsets) => are_three(offsets.as_slice()) && slanted_name() == *label,
+        _ => false,
+    }
+}
+
+// Whether there are three lengths.
+fn are_three(offsets: &[Offset]) -> bool
+    ensures { result ≡ are_three offsets.now }
+{
+    offsets.len() == 3
+}
+
+// Whether an event is a polar place, or angles in another unit than decimal degrees.
+fn is_polar_event(name: &[u8], value: &Expr) -> bool
+    ensures { result ≡ is_polar_event (event_named name.now) (leaf_in value.now) }
+{
+    match Event::named(name) {
+        Some(Event::Polar) => true,
+        Some(Event::Angle) => is_nothing(value),
+        _ => false,
+    }
+}
+
+// Whether a statement is such an event.
+fn is_polar(placed: &Placed) -> bool
+    ensures { result ≡ is_polar_placed placed.now }
+{
+    match &placed.statement.form {
+        Form::Assignment(target, value) => is_polar_event(target.name.as_bytes(), value),
+        _ => false,
+    }
+}
+
 // Whether one of the statements is a place that is kept, or a step.
 fn has_spots(all: &[Placed]) -> bool
     ensures { result ≡ list_any is_spotted all.now }
@@ -556,6 +594,20 @@ fn has_slants(all: &[Placed]) -> bool
     all.iter().any(|placed| is_slanted(placed))
 }
 
+// Whether one of them is along the direction of its feature.
+fn has_pointed(all: &[Placed]) -> bool
+    ensures { result ≡ list_any is_pointed_placed all.now }
+{
+    all.iter().any(|placed| is_pointed(placed))
+}
+
+// Whether one is a polar place, or has angles in another unit than decimal degrees.
+fn has_polar(all: &[Placed]) -> bool
+    ensures { result ≡ list_any is_polar_placed all.now }
+{
+    all.iter().any(|placed| is_polar(placed))
+}
+
 // What holds of a text.
 fn text_of(all: &[Placed]) -> Text
     ensures { result ≡ text_of all.now }
@@ -567,6 +619,9 @@ fn text_of(all: &[Placed]) -> Text
         from: has_from(all),
         steps: has_steps(all),
         slants: has_slants(all),
+        pointed: has_pointed(all),
+        polar: has_polar(all),
+        cut: has_cut(all),
     }
 }
 
@@ -626,6 +681,8 @@ fn last_carried(alloc: Global) -> Result<Items<VariableName>, NoMemory>
             Carried::Single,
             Carried::Sensor,
             Carried::Touched,
+            Carried::Angle,
+            Carried::Plane,
         ],
     )
 }
@@ -694,12 +751,35 @@ fn open(out: &mut Vec<Guarded>) -> Result<(), NoMemory>
     set_number(out, 1, Carried::Place, 2)
 }
 
-// Nothing stands above.
-fn nothing_above(alloc: Global) -> Above
-    ensures { reached result ≡ begun }
+// Angles in decimal degrees and the plane of X and Y are known at the start, in a text that asks for them.
+#[tactic(auto, unfolding(crate::specs::Guarding::opens_polar))]
+fn open_polar(out: &mut Vec<Guarded>, polar: bool) -> Result<(), NoMemory>
+    ensures { OnOk result (out.new.items ≡ out.old.items ++ opens_polar polar) }
+{
+    if !polar {
+        return Ok(());
+    }
+    set_number(out, 1, Carried::Angle, 1)?;
+    set_number(out, 1, Carried::Plane, 1)
+}
+
+// The first of the variables of a text that carries how far its values may lie from the machine's.
+fn first_variables(alloc: Global, cut: bool) -> Result<Names, NoMemory>
+    ensures { IfOk result (λ names. names ≡ first_variables cut) }
+{
+    let mut names = Names::new(alloc);
+    if cut {
+        names.declare(IMPLICIT, Item::Beside.variable(), Kind::Bool)?;
+    }
+    Ok(names)
+}
+
+// Nothing stands above, behind these variables.
+fn nothing_above(alloc: Global, names: Names) -> Above
+    ensures { reached result ≡ record begun { variables = names } }
 {
     Above {
-        names: Names::new(alloc),
+        names,
         frames: Titles::new(alloc),
         features: Titles::new(alloc),
         measuring: None,
@@ -724,7 +804,9 @@ pub(crate) fn guarded(alloc: Global, all: Vec<Placed>) -> Result<Vec<Guarded>, N
     declare_slanted(alloc, &mut out, text.slants)?;
     keep_machine(alloc, &mut out, text.machine)?;
     open(&mut out)?;
-    let mut above = nothing_above(alloc);
+    open_polar(&mut out, text.polar)?;
+    let names = first_variables(alloc, text.cut)?;
+    let mut above = nothing_above(alloc, names);
     guard_all(alloc, &mut out, text, &mut above, all)?;
     Ok(out)
 }

@@ -5,6 +5,7 @@ mod approaches;
 mod blocks;
 mod effects;
 mod events;
+mod exactly;
 mod frames;
 mod guarding;
 mod places;

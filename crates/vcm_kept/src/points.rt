@@ -2,6 +2,7 @@
 
 ghost use Rattle.std.specs.Prelude.{◌≡◌, ◌++◌, ◌∷◌, [], pos, Some, None, OnOk, IfOk, List, Result, Ok, Err, if◌then◌else◌};
 ghost use Rattle.vcm_expr.specs.Source.{Plain};
+ghost use Rattle.vcm_events.specs.Joined.{whole_of};
 ghost use Rattle.vcm_program.specs.Titles.{index_of, entered, with_name};
 ghost use Rattle.vcm_forms.specs.declared.statement.Form.TheVariants as form;
 ghost use Rattle.vcm_templates.specs.declared.carried.Carried.TheVariants as carried;
@@ -9,13 +10,13 @@ ghost use Rattle.vcm_templates.specs.declared.carried.Item.TheVariants as items;
 ghost use Rattle.vcm_templates.specs.Expressions.{number, both, knows_frame, are_current, in_frame};
 ghost use Rattle.vcm_templates.specs.Templates.{stands, elsewhere, ends, set_item};
 ghost use Rattle.vcm_kept.specs.Places.{has_place, loses_track};
-ghost use Rattle.vcm_kept.specs.Guarding.{is_declared, is_nominal, is_measured, point, direction_asks, point_goes, own_point, touches_declared, touches_itself, touches_at, touches, measures, touched_once, touched_here, keeps_point, measured_index, leaves_points, counts_points, measured, nominal_where, with_known, features_at, declares_feature, feature_gone, features_in, features};
+ghost use Rattle.vcm_kept.specs.Guarding.{is_declared, is_nominal, is_measured, point, direction_asks, point_goes, own_point, touches_declared, touches_itself, touches_at, touches, measures, touched_once, touched_here, keeps_point, measured_index, leaves_points, counts_points, measured, nominal_where, with_known, direction_of, sets_direction, keeps_direction, declares_direction, features_at, declares_feature, feature_gone, features_in, features};
 
 use crate::places::{
     ask_place, ask_point, has_place, length_asks, lose_track, place_again, point_asks,
 };
 use std::alloc::Global;
-use vcm_events::pair;
+use vcm_events::{pair, whole};
 use vcm_expr::{BinaryOp, Expr, Names, Relation};
 use vcm_forms::{Coordinates, Form};
 use vcm_items::Name;
@@ -305,8 +306,8 @@ fn count_points(
     }
 }
 
-// The index of the feature that is measured, if it is declared.
-fn measured_index(declared: &Titles, measuring: &Option<Name>) -> Option<u16>
+/// The index of the feature that is measured, if it is declared.
+pub(crate) fn measured_index(declared: &Titles, measuring: &Option<Name>) -> Option<u16>
     ensures { result ≡ measured_index declared.now measuring.now }
 {
     match measuring {
@@ -360,11 +361,68 @@ fn nominal_where(
     end(out, line)
 }
 
+// The direction of an axis as whole numbers, in thousandths.
+fn direction_of(alloc: Global, axis: Axis) -> Result<Coordinates, NoMemory>
+    ensures { IfOk result (λ d. d ≡ direction_of axis) }
+{
+    match axis {
+        Axis::PlusX => whole_place(alloc, 1000, 0, 0),
+        Axis::MinusX => whole_place(alloc, -1000, 0, 0),
+        Axis::PlusY => whole_place(alloc, 0, 1000, 0),
+        Axis::MinusY => whole_place(alloc, 0, -1000, 0),
+        Axis::PlusZ => whole_place(alloc, 0, 0, 1000),
+        Axis::MinusZ => whole_place(alloc, 0, 0, -1000),
+    }
+}
+
+// Three whole numbers.
+fn whole_place(alloc: Global, x: i32, y: i32, z: i32) -> Result<Coordinates, NoMemory>
+    ensures { IfOk result (λ d. d ≡ record { x = whole_of x; y = whole_of y; z = whole_of z }) }
+{
+    let x = whole(alloc, x)?;
+    let y = whole(alloc, y)?;
+    let z = whole(alloc, z)?;
+    Ok(Coordinates { x, y, z })
+}
+
+// The direction of the feature at an index is carried.
+fn set_direction(
+    out: &mut Vec<Guarded>,
+    line: u32,
+    index: u16,
+    direction: Coordinates,
+) -> Result<(), NoMemory>
+    ensures { OnOk result (out.new.items ≡ out.old.items ++ sets_direction line index direction) }
+{
+    set_item(out, line, Item::AlongX, index, direction.x)?;
+    set_item(out, line, Item::AlongY, index, direction.y)?;
+    set_item(out, line, Item::AlongZ, index, direction.z)
+}
+
+// It is where points are approached along it.
+fn keep_direction(
+    alloc: Global,
+    out: &mut Vec<Guarded>,
+    pointed: bool,
+    line: u32,
+    index: u16,
+    axis: Axis,
+) -> Result<(), NoMemory>
+    ensures { OnOk result (out.new.items ≡ out.old.items ++ keeps_direction pointed line index axis) }
+{
+    if pointed {
+        set_direction(out, line, index, direction_of(alloc, axis)?)
+    } else {
+        Ok(())
+    }
+}
+
 // FEAT of a point along an axis, at its index.
 #[tactic(auto, unfolding(crate::specs::Guarding::features_at))]
 fn declare_at(
     alloc: Global,
     out: &mut Vec<Guarded>,
+    pointed: bool,
     line: u32,
     expansion: u32,
     names: &Names,
@@ -373,40 +431,64 @@ fn declare_at(
     axis: Axis,
     index: u16,
 ) -> Result<(), NoMemory>
-    ensures { OnOk result (out.new.items ≡ out.old.items ++ features_at line expansion names.now label place axis index) }
+    ensures { OnOk result (out.new.items ≡ out.old.items ++ features_at pointed line expansion names.now label place axis index) }
 {
     ask(out, line, length_asks(alloc)?)?;
     ask_place(alloc, out, line, names, &place)?;
     where_known(out, line)?;
     stand(out, line, expansion, Form::Feature(label, place, axis))?;
+    keep_direction(alloc, out, pointed, line, index, axis)?;
     nominal_where(alloc, out, line, index)
+}
+
+// What is carried of a direction is declared, where points are approached along it.
+fn declare_direction(
+    alloc: Global,
+    out: &mut Vec<Guarded>,
+    pointed: bool,
+    line: u32,
+    index: u16,
+) -> Result<(), NoMemory>
+    ensures { OnOk result (out.new.items ≡ out.old.items ++ declares_direction pointed line index) }
+{
+    if !pointed {
+        return Ok(());
+    }
+    declare_item(alloc, out, line, Item::AlongX, index)?;
+    declare_item(alloc, out, line, Item::AlongY, index)?;
+    declare_item(alloc, out, line, Item::AlongZ, index)
 }
 
 // What is carried of a feature is declared with it, where it is new.
 fn declare_carried(
     alloc: Global,
     out: &mut Vec<Guarded>,
+    pointed: bool,
     line: u32,
     index: u16,
     was: Option<u16>,
 ) -> Result<(), NoMemory>
-    ensures { OnOk result (out.new.items ≡ out.old.items ++ declares_feature line index was) }
+    ensures { OnOk result (out.new.items ≡ out.old.items ++ declares_feature pointed line index was) }
 {
     match was {
         Some(_) => Ok(()),
         None => {
             declare_item(alloc, out, line, Item::Measured, index)?;
-            declare_item(alloc, out, line, Item::Nominal, index)
+            declare_item(alloc, out, line, Item::Nominal, index)?;
+            declare_direction(alloc, out, pointed, line, index)
         }
     }
 }
 
-// A feature that isn't known by its FEAT.
+// A feature that isn't known by its FEAT, nor is its value.
 fn feature_gone(out: &mut Vec<Guarded>, line: u32, index: Option<u16>) -> Result<(), NoMemory>
     ensures { OnOk result (out.new.items ≡ out.old.items ++ feature_gone line index) }
 {
     match index {
-        Some(index) => lose_item(out, line, Item::Nominal, index),
+        Some(index) => {
+            lose_item(out, line, Item::Nominal, index)?;
+            lose_item(out, line, Item::Measured, index)
+        }
         None => Ok(()),
     }
 }
@@ -415,6 +497,7 @@ fn feature_gone(out: &mut Vec<Guarded>, line: u32, index: Option<u16>) -> Result
 fn declare_new(
     alloc: Global,
     out: &mut Vec<Guarded>,
+    pointed: bool,
     line: u32,
     expansion: u32,
     names: &Names,
@@ -424,7 +507,7 @@ fn declare_new(
     axis: Axis,
 ) -> Result<(), NoMemory>
     requires { index_of declared.old label ≡ None }
-    ensures put { OnOk result (out.new.items ≡ out.old.items ++ features_in line expansion names.now declared.old label place axis (entered declared.old label)) }
+    ensures put { OnOk result (out.new.items ≡ out.old.items ++ features_in pointed line expansion names.now declared.old label place axis (entered declared.old label)) }
     ensures declared { OnOk result (declared.new ≡ with_known declared.old label) }
 {
     if declared.len() >= MOST_NAMES {
@@ -432,9 +515,9 @@ fn declare_new(
     }
     match declared.enter(line, label.copy()) {
         Ok(index) => {
-            declare_carried(alloc, out, line, index, None)?;
+            declare_carried(alloc, out, pointed, line, index, None)?;
             declare_at(
-                alloc, out, line, expansion, names, label, place, axis, index,
+                alloc, out, pointed, line, expansion, names, label, place, axis, index,
             )
         }
         Err(_) => Err(NoMemory),
@@ -445,6 +528,7 @@ fn declare_new(
 fn declare_in(
     alloc: Global,
     out: &mut Vec<Guarded>,
+    pointed: bool,
     line: u32,
     expansion: u32,
     names: &Names,
@@ -453,15 +537,15 @@ fn declare_in(
     place: Coordinates,
     axis: Axis,
 ) -> Result<(), NoMemory>
-    ensures put { OnOk result (out.new.items ≡ out.old.items ++ features_in line expansion names.now declared.old label place axis (entered declared.old label)) }
+    ensures put { OnOk result (out.new.items ≡ out.old.items ++ features_in pointed line expansion names.now declared.old label place axis (entered declared.old label)) }
     ensures declared { OnOk result (declared.new ≡ with_known declared.old label) }
 {
     match index_among(declared, &label) {
         Some(index) => declare_at(
-            alloc, out, line, expansion, names, label, place, axis, index,
+            alloc, out, pointed, line, expansion, names, label, place, axis, index,
         ),
         None => declare_new(
-            alloc, out, line, expansion, names, declared, label, place, axis,
+            alloc, out, pointed, line, expansion, names, declared, label, place, axis,
         ),
     }
 }
@@ -470,6 +554,7 @@ fn declare_in(
 pub(crate) fn declare(
     alloc: Global,
     out: &mut Vec<Guarded>,
+    pointed: bool,
     line: u32,
     expansion: u32,
     names: &Names,
@@ -478,12 +563,12 @@ pub(crate) fn declare(
     place: Coordinates,
     axis: Axis,
 ) -> Result<(), NoMemory>
-    ensures put { OnOk result (out.new.items ≡ out.old.items ++ features line expansion names.now declared.old label place axis) }
+    ensures put { OnOk result (out.new.items ≡ out.old.items ++ features pointed line expansion names.now declared.old label place axis) }
     ensures declared { OnOk result (declared.new ≡ (if has_place names.now place then with_known declared.old label else declared.old)) }
 {
     if has_place(alloc, names, &place)? {
         declare_in(
-            alloc, out, line, expansion, names, declared, label, place, axis,
+            alloc, out, pointed, line, expansion, names, declared, label, place, axis,
         )
     } else {
         feature_gone(out, line, index_among(declared, &label))

@@ -15,4 +15,10 @@ pub struct Text {
     pub steps: bool,
     /// It has points that are approached and left.
     pub slants: bool,
+    /// Some of them are along the directions of their features.
+    pub pointed: bool,
+    /// It has polar places, or angles in another unit than decimal degrees.
+    pub polar: bool,
+    /// It has values that may be cut off.
+    pub cut: bool,
 }

@@ -17,7 +17,8 @@ use vcm_program::Titles;
 use vcm_remarks::Remark;
 use vcm_spec::{FeatureWord, Source};
 use vcm_templates::{
-    Carried, Guarded, ask, both, elsewhere, end, knows_frame, remark, stand, truth, where_known,
+    Carried, Guarded, ask, both, elsewhere, end, knows_frame, number, remark, set_bound, stand,
+    truth, where_known,
 };
 
 // The frame in which a feature's value is known is the current one.
@@ -37,6 +38,7 @@ fn obtain_here(
     out: &mut Vec<Guarded>,
     line: u32,
     expansion: u32,
+    names: &Names,
     target: Target,
     side: Source,
     label: Name,
@@ -44,12 +46,14 @@ fn obtain_here(
     index: u16,
     feature: u16,
 ) -> Result<(), NoMemory>
-    ensures { OnOk result (out.new.items ≡ out.old.items ++ obtains_here line expansion target side label word index feature) }
+    ensures { OnOk result (out.new.items ≡ out.old.items ++ obtains_here line expansion names.now target side label word index feature) }
 {
     let here = is_here(alloc, side, feature)?;
     ask(out, line, both(alloc, &here, &length_asks(alloc)?)?)?;
     where_known(out, line)?;
     stand(out, line, expansion, Form::Query(target, side, label, word))?;
+    let exact = Expr::leaf(number(0));
+    set_bound(alloc, out, line, names, Kind::Real, index, &exact)?;
     otherwise_lose(out, line, index)
 }
 
@@ -73,7 +77,7 @@ pub(crate) fn obtain(
     };
     match (kind, index_among(declared, &label)) {
         (Kind::Real, Some(feature)) => obtain_here(
-            alloc, out, line, expansion, target, side, label, word, index, feature,
+            alloc, out, line, expansion, names, target, side, label, word, index, feature,
         ),
         _ => lose_variable(out, line, index),
     }

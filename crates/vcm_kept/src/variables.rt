@@ -6,17 +6,34 @@ ghost use Rattle.vcm_spec.specs.Setup.{kinds_of};
 ghost use Rattle.vcm_items.specs.Names.{variable_of};
 ghost use Rattle.vcm_templates.specs.Expressions.{number};
 ghost use Rattle.vcm_templates.specs.Templates.{elsewhere, ends};
-ghost use Rattle.vcm_kept.specs.Guarding.{with_variable, with_variables, declares_one, declares_all, want_of, know_variable, lose_variable, assigned_where, assigned};
+ghost use Rattle.vcm_kept.specs.Guarding.{with_variable, with_variables, declares_variable, declares_one, declares_all, know_variable, lose_variable, assigned_where, assigned};
 
+use crate::exactly::want_of;
 use std::alloc::Global;
-use vcm_expr::{Expr, Names, Want};
+use vcm_expr::{Expr, Names};
 use vcm_forms::{Form, Target};
 use vcm_items::VariableName;
 use vcm_num::{Kind, MOST_NAMES, NoMemory};
 use vcm_templates::{
-    Carried, Guarded, Item, ask, ask_all, declare_item, elsewhere, end, has_form, lose_item,
-    set_item, stand, truth, where_known,
+    Carried, FAR, Guarded, Item, ask, ask_value, declare_bound, declare_item, elsewhere, end,
+    has_form, is_carried, lose_item, set_bound, set_item, stand, truth, where_known,
 };
+
+// What is carried of the variable at an index is declared with it, its bound too if that is.
+#[tactic(auto, unfolding(crate::specs::Guarding::declares_variable))]
+fn declare_variable(
+    alloc: Global,
+    out: &mut Vec<Guarded>,
+    line: u32,
+    carried: bool,
+    index: u16,
+) -> Result<(), NoMemory>
+    ensures { OnOk result (out.new.items ≡ out.old.items ++ declares_variable line carried index) }
+{
+    declare_item(alloc, out, line, Item::Known, index)?;
+    lose_item(out, line, Item::Known, index)?;
+    declare_bound(alloc, out, line, carried, index)
+}
 
 // A variable that is declared.
 fn declare_one(
@@ -28,19 +45,18 @@ fn declare_one(
     kind: Kind,
     name: &VariableName,
 ) -> Result<(), NoMemory>
-    ensures put { OnOk result (out.new.items ≡ out.old.items ++ declares_one line names.old expansion name.now) }
+    ensures put { OnOk result (out.new.items ≡ out.old.items ++ declares_one line names.old expansion kind name.now) }
     ensures names { OnOk result (names.new ≡ with_variable names.old expansion kind name.now) }
 {
     let index = names.len();
     if index >= MOST_NAMES {
         return Ok(());
     }
+    let carried = is_carried(names, kind);
     if !names.declare(expansion, name.copy(), kind)? {
         return Ok(());
     }
-    let index = index as u16;
-    declare_item(alloc, out, line, Item::Known, index)?;
-    lose_item(out, line, Item::Known, index)
+    declare_variable(alloc, out, line, carried, index as u16)
 }
 
 /// The variables of a declaration, one by one.
@@ -60,17 +76,6 @@ pub(crate) fn declare_all(
         declare_one(alloc, out, line, names, expansion, kind, name)?;
     }
     Ok(())
-}
-
-// What a value of this kind is wanted as.
-fn want_of(kind: Kind) -> Want
-    ensures { result ≡ want_of kind }
-{
-    match kind {
-        Kind::Int => Want::Int,
-        Kind::Real => Want::Length,
-        Kind::Bool => Want::Bool,
-    }
 }
 
 /// The value of a variable at an index is known.
@@ -106,14 +111,16 @@ fn assign_where(
     expansion: u32,
     names: &Names,
     target: Target,
+    kind: Kind,
     index: u16,
     value: Expr,
 ) -> Result<(), NoMemory>
-    ensures { OnOk result (out.new.items ≡ out.old.items ++ assigned_where line expansion names.now target index value) }
+    ensures { OnOk result (out.new.items ≡ out.old.items ++ assigned_where line expansion names.now target kind index value) }
 {
     ask(out, line, truth(true))?;
-    ask_all(alloc, out, line, names, &value)?;
+    ask_value(alloc, out, line, names, FAR, &value)?;
     where_known(out, line)?;
+    set_bound(alloc, out, line, names, kind, index, &value)?;
     stand(out, line, expansion, Form::Assignment(target, value))?;
     know_variable(out, line, index)?;
     lose_elsewhere(out, line, index)
@@ -134,7 +141,9 @@ pub(crate) fn assign(
     match names.find(target.expansion, &target.name) {
         Some((index, kind)) => {
             if has_form(alloc, names, want_of(kind), &value)? {
-                assign_where(alloc, out, line, expansion, names, target, index, value)
+                assign_where(
+                    alloc, out, line, expansion, names, target, kind, index, value,
+                )
             } else {
                 lose_variable(out, line, index)
             }

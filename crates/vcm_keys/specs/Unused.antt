@@ -32,7 +32,7 @@ is_machine_key key = list_any (λ k. bytes_eq k key) (codes "low" ∷ codes "hig
 
 -- whether a key of a block is used, with this value
 abbrev pub is_block_key : List ℕ → Data → Bool
-is_block_key key d = list_any (λ k. bytes_eq k key) (codes "low" ∷ codes "high" ∷ []) || (bytes_eq key (codes "name") && is_some_name (name_of d))
+is_block_key key d = list_any (λ k. bytes_eq k key) (codes "low" ∷ codes "high" ∷ codes "fixture" ∷ []) || (bytes_eq key (codes "name") && is_some_name (name_of d))
 
 -- whether a key of the machine, which is block 0, or of a block is used
 abbrev pub is_used : ℕ → List ℕ → Data → Bool

@@ -6,6 +6,7 @@ ghost use Rattle.toml.specs.Data.{as_table};
 ghost use Rattle.toml.specs.View.{view, items_view, table_view};
 ghost use Rattle.vcm_keys.specs.Statements.{members_of};
 ghost use Rattle.vcm_keys.specs.Unused.{is_same_key, is_same, is_among, told, unused_keys, row_name, row_names, block_names};
+ghost use Rattle.vcm_keys.specs.Fixtures.{is_row_fixed, row_fixtures, block_fixtures};
 
 use crate::place::KeyPlace;
 use crate::placing::places_of;
@@ -87,7 +88,7 @@ fn told(places: Vec<KeyPlace>, unused: Vec<KeyPlace>) -> Result<Vec<KeyPlace>, N
 }
 
 /// The keys of a part file that nothing uses: on each line where one stands, in the order of lines, and then those whose line isn't known. Used
-/// are `low`, `high`, `home`, `tip` and `block`, and of a block `low`, `high`, and a `name` of 1 to 32 printable bytes. None of bytes that are no
+/// are `low`, `high`, `home`, `tip` and `block`, and of a block `low`, `high`, `fixture`, and a `name` of 1 to 32 printable bytes. None of bytes that are no
 /// TOML.
 ///
 /// # Errors
@@ -143,6 +144,48 @@ pub fn block_names(alloc: Global, bytes: &[u8]) -> Result<Vec<Vec<u8>>, NoMemory
 {
     match table_of(alloc, bytes)? {
         Some(table) => names_of_rows(alloc, rows_of(&table)),
+        None => Ok(Vec::new(alloc)),
+    }
+}
+
+// Whether the block of a row is one of the fixture.
+fn is_fixed(row: &Value) -> bool
+    ensures { result ≡ is_row_fixed (as_table (view row.now)) }
+{
+    let Some(table) = row.as_table() else {
+        return false;
+    };
+    let Some(value) = value_at(table, "fixture") else {
+        return false;
+    };
+    match value.as_bool() {
+        Some(is_fixed) => is_fixed,
+        None => false,
+    }
+}
+
+// The same of rows.
+fn fixtures_of_rows(alloc: Global, rows: &[Value]) -> Result<Vec<bool>, NoMemory>
+    ensures { IfOk result (λ v. v.items ≡ row_fixtures (items_view rows.now)) }
+{
+    let mut fixtures = Vec::new(alloc);
+    for row in rows {
+        fixtures.push(is_fixed(row))?;
+    }
+    Ok(fixtures)
+}
+
+/// Whether each of a part file's blocks is one of the fixture, as its key `fixture` says: false where it has none. None of bytes that are no TOML.
+///
+/// # Errors
+///
+/// Out of memory.
+#[tactic(auto, unfolding(crate::specs::Fixtures::block_fixtures))]
+pub fn block_fixtures(alloc: Global, bytes: &[u8]) -> Result<Vec<bool>, NoMemory>
+    ensures { IfOk result (λ v. v.items ≡ block_fixtures bytes.now) }
+{
+    match table_of(alloc, bytes)? {
+        Some(table) => fixtures_of_rows(alloc, rows_of(&table)),
         None => Ok(Vec::new(alloc)),
     }
 }

@@ -8,6 +8,6 @@ mod placing;
 mod statement;
 mod unused;
 
-pub use keys::{block_names, unused_keys};
+pub use keys::{block_fixtures, block_names, unused_keys};
 pub use place::KeyPlace;
 pub use placing::{block_lines, line_of, open_line, places_of};

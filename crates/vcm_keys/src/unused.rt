@@ -61,7 +61,7 @@ fn is_machine_key(key: &[u8]) -> bool
 fn is_block_key(key: &[u8], value: &Value) -> bool
     ensures { result ≡ is_block_key key.now (view value.now) }
 {
-    is_one_of(&[b"low", b"high"], key) || (is(key, b"name") && name_of(value).is_some())
+    is_one_of(&[b"low", b"high", b"fixture"], key) || (is(key, b"name") && name_of(value).is_some())
 }
 
 // Whether a key of the machine, which is block 0, or of a block is used.

@@ -1,16 +1,16 @@
 -- No refusal of a part file is want of memory.
-use Rattle.std.proofs.Common.{◌≡◌, ◌≢◌, ℕ, ◌+◌, ℤ, pos, ◌&&◌, List, Option, Some, None, Ok, Err}
+use Rattle.std.proofs.Common.{◌≡◌, ◌≢◌, ℕ, ◌+◌, ℤ, pos, ◌&&◌, Bool, List, Option, Some, None, Ok, Err}
 use Rattle.std.specs.Prelude.{codes, nat_lt, int_le, unsigned_abs}
 use Rattle.std.specs.Option.{option_and_then}
 use Rattle.std.specs.Str.{is_utf8}
-use Rattle.toml.specs.Data.{Data, Items, no_items, item, Members, get_member, as_integer, as_table, as_array}
+use Rattle.toml.specs.Data.{Data, Items, no_items, item, Members, get_member, as_integer, as_bool, as_table, as_array}
 use Rattle.toml.specs.Parse.{parse_document}
 use Rattle.vcm_num.specs.declared.point.Point.{Point}
 use Rattle.vcm_num.specs.Point.{coordinate, is_below, is_near}
 use Rattle.vcm_part.specs.declared.fault.PartCode.TheVariants.{NoMemory, OutOfRange}
 use Rattle.vcm_part.specs.declared.fault.PartFault.{PartFault}
 use Rattle.vcm_part.specs.Faults.{fault}
-use Rattle.vcm_part.specs.PartFile.{near_point, point_at, point_of, small_length, tip_of, tip_at, are_tables, count, table_rows, rows_of, block_in, block_of}
+use Rattle.vcm_part.specs.PartFile.{near_point, point_at, point_of, small_length, tip_of, tip_at, are_tables, count, table_rows, rows_of, truth_of, fixture_of, fixture_at, block_in, block_of}
 use Rattle.vcm_part.specs.PartFile.{blocks_from, blocks_at, is_clear, bounds_of, part_of_table, part_of_document, part_of}
 use Rattle.vcm_part.proofs.Steps.{TakesNone, then_none, if_none, none_of}
 
@@ -34,10 +34,22 @@ tip_none : (t : Members) → TakesNone (tip_at t)
 unfolding tip_at
 tip_none t = tip_of_none (get_member (codes "tip") t)
 
+truth_none : (number : ℕ) (o : Option Bool) → TakesNone (truth_of number o)
+truth_none number None = λ e. cc
+truth_none number (Some b) = tt
+
+fixture_of_none : (number : ℕ) (o : Option Data) → TakesNone (fixture_of number o)
+fixture_of_none number None = tt
+fixture_of_none number (Some d) = truth_none number (as_bool d)
+
+fixture_none : (number : ℕ) (t : Members) → TakesNone (fixture_at number t)
+unfolding fixture_at
+fixture_none number t = fixture_of_none number (get_member (codes "fixture") t)
+
 block_none : (number : ℕ) (o : Option Members) → TakesNone (block_in number o)
 block_none number None = λ e. cc
 block_none number (Some t) =
-    then_none _ _ (point_none (codes "low") number t) (λ low. then_none _ _ (point_none (codes "high") number t) (λ high. if_none (is_below (coordinate low) (coordinate high)) _ _ tt (λ e. cc)))
+    then_none _ _ (point_none (codes "low") number t) (λ low. then_none _ _ (point_none (codes "high") number t) (λ high. then_none _ _ (fixture_none number t) (λ f. if_none (is_below (coordinate low) (coordinate high)) _ _ tt (λ e. cc))))
 
 blocks_none : (number : ℕ) (ds : Items) → TakesNone (blocks_from number ds)
 unfolding blocks_from block_of

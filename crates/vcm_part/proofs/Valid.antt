@@ -17,7 +17,7 @@ use Rattle.vcm_part.specs.declared.fault.PartCode.TheVariants.{NotToml, BadKey, 
 use Rattle.vcm_part.specs.declared.fault.PartFault.{PartFault}
 use Rattle.vcm_spec.specs.Results.{◌>>=◌}
 use Rattle.vcm_part.specs.Faults.{fault}
-use Rattle.vcm_part.specs.PartFile.{near_point, point_at, point_of, small_length, tip_of, tip_at, count, rows_of, block_in, block_of, blocks_from, blocks_at}
+use Rattle.vcm_part.specs.PartFile.{near_point, point_at, point_of, small_length, tip_of, tip_at, count, rows_of, fixture_at, block_in, block_of, blocks_from, blocks_at}
 use Rattle.vcm_part.specs.PartFile.{is_clear, assembled, bounds_of, part_of_table, part_of_document, part_of}
 use Rattle.vcm_part.proofs.Steps.{both, kept}
 
@@ -56,7 +56,8 @@ block_valid number None b e = absurd (let no : Err (fault BadKey number) ≡ Ok 
 block_valid number (Some t) b e =
     let first = both (point_at (codes "low") number t) _ b e in
     let second = both (point_at (codes "high") number t) _ b first.second in
-    let last = kept (is_below (coordinate first.between) (coordinate second.between)) (between first.between second.between) b (fault LowAboveHigh number) second.second in
+    let third = both (fixture_at number t) _ b second.second in
+    let last = kept (is_below (coordinate first.between) (coordinate second.between)) (between first.between second.between) b (fault LowAboveHigh number) third.second in
     subst (λ (x : Block3). is_block x ≡ true) last.is
     (and_from _ _ (and_from _ _ (point_near _ _ _ _ first.first) (point_near _ _ _ _ second.first)) last.held)
 

@@ -1,9 +1,9 @@
 -- What the bytes of a part file give: a workpiece, or the first refusal.
 use Rattle.std.specs.Prelude.{◌≡◌, ℕ, suc, ◌+◌, ℤ, List, [], ◌∷◌, Option, Some, None, Result, Ok, Err}
-use Rattle.std.specs.Prelude.{pos, Bool, true, ◌&&◌, ◌⊎◌, not, nat_lt, int_le, unsigned_abs, codes, is_some, if◌then◌else◌}
+use Rattle.std.specs.Prelude.{pos, Bool, true, false, ◌&&◌, ◌⊎◌, not, nat_lt, int_le, unsigned_abs, codes, is_some, if◌then◌else◌}
 use Rattle.std.specs.Option.{option_and_then}
 use Rattle.std.specs.Str.{is_utf8}
-use Rattle.toml.specs.Data.{Data, Items, no_items, item, Members, get_member, as_integer, as_array, as_table}
+use Rattle.toml.specs.Data.{Data, Items, no_items, item, Members, get_member, as_integer, as_bool, as_array, as_table}
 use Rattle.toml.specs.Parse.{parse_document}
 use Rattle.vcm_num.specs.declared.point.Point.{Point}
 use Rattle.vcm_num.specs.Point.{point, coordinate, is_below, is_near}
@@ -74,12 +74,27 @@ abbrev pub rows_of : Option Data → Result Items PartFault
 rows_of None = Ok no_items
 rows_of (Some d) = table_rows (as_array d)
 
+-- a truth value, if it is one, else the refusal
+abbrev pub truth_of : ℕ → Option Bool → Result Bool PartFault
+truth_of number None = Err (fault BadKey number)
+truth_of number (Some b) = Ok b
+
+-- whether a block is one of the fixture: it isn't where the key is absent
+abbrev pub fixture_of : ℕ → Option Data → Result Bool PartFault
+fixture_of number None = Ok false
+fixture_of number (Some d) = truth_of number (as_bool d)
+
+-- that of the block of that number
+unfoldable pub fixture_at : ℕ → Members → Result Bool PartFault
+fixture_at number t = fixture_of number (get_member (codes "fixture") t)
+
 -- the block of that number
 abbrev pub block_in : ℕ → Option Members → Result Block3 PartFault
 block_in number None = Err (fault BadKey number)
 block_in number (Some t) = do
   low ← point_at (codes "low") number t
   high ← point_at (codes "high") number t
+  is_fixed ← fixture_at number t
   if is_below (coordinate low) (coordinate high) then Ok (record { low = low; high = high }) else Err (fault LowAboveHigh number)
 
 -- the block of a value

@@ -72,3 +72,11 @@ NoWholeNumber = Gives (limits ++ codes "[[block]]\nlow = [1, 1.0, 1]\n") (Err (f
 -- the low corner is above the high one on one axis
 abbrev pub LowAbove : Type 0
 LowAbove = Gives (limits ++ codes "[[block]]\nlow = [1, 3, 1]\nhigh = [2, 2, 2]\n") (Err (fault LowAboveHigh 1))
+
+-- a block of the fixture
+abbrev pub Fixed : Type 0
+Fixed = Gives (limits ++ codes "[[block]]\nlow = [10000, 10000, 0]\nhigh = [30000, 30000, 20000]\nfixture = true\n") (Ok one_block)
+
+-- whether a block is one of the fixture isn't said by a number
+abbrev pub FixedByANumber : Type 0
+FixedByANumber = Gives (limits ++ codes "[[block]]\nlow = [10000, 10000, 0]\nhigh = [30000, 30000, 20000]\nfixture = 1\n") (Err (fault BadKey 1))

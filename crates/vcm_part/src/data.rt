@@ -3,11 +3,12 @@
 ghost use Rattle.std.specs.Prelude.{◌≡◌, is_some, IfOk, IfSome};
 ghost use Rattle.vcm_spec.specs.Workpiece.{Workpiece, IsValid};
 ghost use Rattle.vcm_part.specs.Tip.{with_tip, is_tip};
+ghost use Rattle.vcm_part.specs.Blocks.{with_blocks, may_have};
 
-use crate::inside::is_some_met;
+use crate::inside::{are_blocks, is_some_met};
 use std::alloc::Global;
 use std::marker::Model;
-use vcm_num::{NoMemory, WIDEST_TIP};
+use vcm_num::{MOST_BLOCKS, NoMemory, WIDEST_TIP};
 use vcm_spec::{Block3, Bounds};
 
 /// A valid workpiece on its machine, in micrometres of machine coordinates: at most 4,096 blocks, counted from 1, each coordinate of them
@@ -67,5 +68,23 @@ impl PartData {
         let mut bounds = self.bounds;
         bounds.tip = tip;
         Ok(Some(PartData { bounds, blocks }))
+    }
+
+    /// The same machine and tip with other blocks. None where it may not have them: there are more than 4,096, a coordinate of one is more than
+    /// 1,000,000,000 from 0 or a low one above the high one, or the tip meets one at home.
+    pub fn with_blocks(&self, blocks: Vec<Block3>) -> Option<PartData>
+        ensures may { is_some result ≡ may_have self.now blocks.items }
+        ensures part { IfSome result (λ p. p ≡ with_blocks blocks.items self.now) }
+    {
+        if blocks.len() > MOST_BLOCKS
+            || !are_blocks(&blocks)
+            || is_some_met(&blocks, self.bounds.tip, self.bounds.home)
+        {
+            return None;
+        }
+        Some(PartData {
+            bounds: self.bounds,
+            blocks,
+        })
     }
 }

@@ -12,7 +12,8 @@ pub enum PartCode {
     NoMemory,
     /// The bytes are no UTF-8, or no TOML.
     NotToml,
-    /// A key is absent, or its value isn't what it has to be: three whole numbers, for `tip` one, or for `block` an array of tables.
+    /// A key is absent, or its value isn't what it has to be: three whole numbers, for `tip` one, for `block` an array of tables, or for `fixture` of a block
+    /// true or false.
     BadKey,
     /// A coordinate is more than 1,000,000,000 micrometres from 0, or `tip` is outside 0 to 50,000.
     OutOfRange,

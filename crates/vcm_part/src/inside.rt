@@ -1,8 +1,9 @@
 //! Points in blocks and within limits, and tips that meet blocks.
 
 ghost use Rattle.std.specs.Prelude.{◌≡◌, pos, ◌+ℤ◌, ◌-ℤ◌, int_le};
+ghost use Rattle.std.specs.List.{list_all};
 ghost use Rattle.vcm_num.specs.Point.{coordinate, is_below, on_each};
-ghost use Rattle.vcm_spec.specs.Workpiece.{is_in, is_met, is_some_met, is_within};
+ghost use Rattle.vcm_spec.specs.Workpiece.{is_in, is_block, is_met, is_some_met, is_within};
 
 use vcm_num::Point;
 use vcm_spec::{Block3, Bounds};
@@ -73,4 +74,18 @@ pub fn is_within(bounds: &Bounds, at: Point) -> bool
     ensures { result ≡ is_within bounds.now (coordinate at) }
 {
     is_below(bounds.low, at) && is_below(at, bounds.high)
+}
+
+// Whether the corners of a block are in range, and in order.
+fn is_block(block: &Block3) -> bool
+    ensures { result ≡ is_block block.now }
+{
+    block.low.is_near() && block.high.is_near() && is_below(block.low, block.high)
+}
+
+// Whether those of all blocks are.
+pub(crate) fn are_blocks(blocks: &[Block3]) -> bool
+    ensures { result ≡ list_all is_block blocks.now }
+{
+    blocks.iter().all(|block| is_block(block))
 }

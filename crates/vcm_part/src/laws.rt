@@ -1,7 +1,7 @@
 //! Laws of the definitions, each the contract of a function without a body.
 
 ghost use Rattle.vcm_part.specs.Laws.{OtherBytesAreRefused, OtherTextsAreRefused, TablesDecide, PartsAreValid, BytesTakeNoMemory, OneAnswer};
-ghost use Rattle.vcm_part.specs.Samples.{NoBlocks, OneBlock, TwoBlocks, TipClear, TipOnBlock, TipTooWide, TipNoNumber, HomeOnAnEdge, TooFar, NoWholeNumber, LowAbove};
+ghost use Rattle.vcm_part.specs.Samples.{NoBlocks, OneBlock, TwoBlocks, TipClear, TipOnBlock, TipTooWide, TipNoNumber, HomeOnAnEdge, TooFar, NoWholeNumber, LowAbove, Fixed, FixedByANumber};
 
 /// The table that the bytes' TOML text denotes decides what a part file gives; other bytes are refused.
 pub fn tables_decide()
@@ -34,4 +34,6 @@ pub fn part_examples()
     ensures too_far { TooFar }
     ensures no_whole_number { NoWholeNumber }
     ensures low_above { LowAbove }
+    ensures fixed { Fixed }
+    ensures fixed_by_a_number { FixedByANumber }
 {}

@@ -6,14 +6,13 @@ ghost use Rattle.toml.specs.View.{view, items_view, table_view};
 ghost use Rattle.toml.specs.Data.{get_member};
 ghost use Rattle.vcm_num.specs.Point.{is_near};
 ghost use Rattle.vcm_spec.specs.Workpiece.{is_block};
-ghost use Rattle.vcm_part.specs.PartFile.{point_of, point_at, tip_at, are_tables, block_of, blocks_from, blocks_at, is_clear, part_of_table, part_of, IsPartRead};
+ghost use Rattle.vcm_part.specs.PartFile.{point_of, point_at, tip_at, fixture_at, are_tables, block_of, blocks_from, blocks_at, is_clear, part_of_table, part_of, IsPartRead};
 ghost use Rattle.vcm_part.specs.inner.NotRead.{Gives};
 
 use crate::data::PartData;
 use crate::fault::{NotRead, PartCode, PartFault};
 use crate::inside::{is_below, is_some_met, is_within};
 use std::alloc::Global;
-use std::mem::forget;
 use toml::{Table, Value};
 use vcm_num::{MOST_BLOCKS, Point};
 use vcm_spec::{Block3, Bounds};
@@ -83,6 +82,20 @@ fn tip_at(table: &Table) -> Result<u32, NotRead>
     Ok(tip as u32)
 }
 
+// Whether the block of that number is one of the fixture, as the key says: it isn't where there is none.
+#[tactic(auto, unfolding(crate::specs::PartFile::fixture_at))]
+fn fixture_at(table: &Table, number: u32) -> Result<bool, NotRead>
+    ensures { Gives (λ b. b) result (fixture_at number (table_view table.now)) }
+{
+    let Some(value) = value_at(table, "fixture") else {
+        return Ok(false);
+    };
+    let Some(is_fixed) = value.as_bool() else {
+        return Err(refused(PartCode::BadKey, number));
+    };
+    Ok(is_fixed)
+}
+
 // The block of that number.
 #[tactic(auto, unfolding(crate::specs::PartFile::block_of))]
 fn block_of(value: &Value, number: u32) -> Result<Block3, NotRead>
@@ -94,6 +107,7 @@ fn block_of(value: &Value, number: u32) -> Result<Block3, NotRead>
     };
     let low = point_at(table, "low", number)?;
     let high = point_at(table, "high", number)?;
+    let _is_fixed = fixture_at(table, number)?;
     if !is_below(low, high) {
         return Err(refused(PartCode::LowAboveHigh, number));
     }
@@ -192,12 +206,7 @@ fn part_of(alloc: Global, bytes: &[u8]) -> Result<PartData, NotRead>
         return Err(refused(PartCode::NotToml, 0));
     };
     match toml::table_from_str(alloc, text) {
-        Ok(table) => {
-            let part = part_of_table(alloc, &table);
-            // Its thousands of blocks of memory are kept until the process ends.
-            forget(table);
-            part
-        }
+        Ok(table) => part_of_table(alloc, &table),
         Err(error) => if error.is_memory() {
             Err(NotRead::Memory)
         } else {
@@ -209,13 +218,13 @@ fn part_of(alloc: Global, bytes: &[u8]) -> Result<PartData, NotRead>
 /// The workpiece that the bytes of a part file give.
 ///
 /// The text is TOML with whole numbers of micrometres: `low`, `high` and `home` with three each, `tip`, which may be absent and is 0 then,
-/// and an array of tables `block`, which may be absent, with `low` and `high` each. Other keys are ignored.
+/// and an array of tables `block`, which may be absent, with `low` and `high` each, and maybe `fixture`, true or false. Other keys are ignored.
 ///
 /// # Errors
 ///
 /// The first in this order: bytes that are no UTF-8 or no TOML; for `low`, `high`, `home` and `tip` each a bad key, then a number out of
 /// range, which for `tip` is one outside 0 to 50,000; limits with low above high; `block` that isn't an array of tables; more than 4,096
-/// blocks; for each block the same of its `low` and `high`, and then low above high; home outside the limits or where the tip meets a
+/// blocks; for each block the same of its `low` and `high`, a bad key `fixture`, and then low above high; home outside the limits or where the tip meets a
 /// block. `NoMemory`, with block 0, where a growth of memory was refused; the call may then be repeated.
 pub fn read_part(alloc: Global, bytes: &[u8]) -> Result<PartData, PartFault>
     ensures { IsPartRead bytes.now result }

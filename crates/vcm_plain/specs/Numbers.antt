@@ -93,3 +93,11 @@ written negative m = minus_of (negative && not (m == 0)) ++ size_text m
 -- so many micrometres as they are written, or the field as it is where they are too many
 abbrev pub written_or : List ℕ → Bool → ℕ → List ℕ
 written_or field negative m = if nat_lt m MOST_LENGTH then written negative m else field
+
+-- how many millionths a number has, without its sign, none where it is no number
+abbrev pub millionths : Lone → Option ℕ
+millionths n = if is_lone n then Some (n.value * power (6 - n.places)) else None
+
+-- the same of bytes
+abbrev pub millionths_in : List ℕ → Option ℕ
+millionths_in bs = millionths (lone_from unread bs)

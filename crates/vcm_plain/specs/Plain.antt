@@ -1,5 +1,5 @@
 -- A text with its lengths as whole micrometres.
-use Rattle.std.specs.Prelude.{ℕ, suc, codes, ◌==◌, Bool, true, false, not, ◌&&◌, ◌||◌, nat_lt, if◌then◌else◌, List, [], ◌∷◌, ◌++◌, map, Option, Some, None}
+use Rattle.std.specs.Prelude.{ℕ, suc, codes, ◌==◌, Bool, true, false, not, ◌&&◌, ◌||◌, nat_eq, nat_lt, if◌then◌else◌, List, [], ◌∷◌, ◌++◌, map, Option, Some, None}
 use Rattle.std.specs.List.{list_any, list_all, filter}
 use Rattle.std.specs.Str.{bytes_eq}
 use Rattle.vcm_num.specs.Words.{look_up}
@@ -95,11 +95,18 @@ other_field u bs = if is_plain_unit u || is_kept_word bs then bs else 42 ∷ bs
 -- how many micrometres one of a statement's numbers has, behind so many of them: the first three of a place are lengths, those behind are a direction
 abbrev pub unit_at : Kind → ℕ → Unit → ℕ
 unit_at kind.Places n u = if nat_lt n 3 then micrometres u else 1000
+unit_at kind.Polar n u = if nat_lt n 3 then micrometres u else 1000
 unit_at k n u = micrometres u
 
--- a field that is a number: in the language's unit it stays where it has three decimals at most
+-- whether one of a statement's numbers, behind so many of them, is an angle: the second of a polar place
+abbrev pub is_angle : Kind → ℕ → Bool
+is_angle kind.Polar n = nat_eq n 1
+is_angle k n = false
+
+-- a field that is a number: an angle stays, and in the language's unit what has three decimals at most
 abbrev pub number_field : Unit → Kind → ℕ → List ℕ → Lone → List ℕ
-number_field u k n bs l = if is_plain_unit u && not l.fine then bs else written_or bs l.negative (rounded (unit_at k n u) l)
+number_field u k n bs l =
+    if is_angle k n || (is_plain_unit u && not l.fine) then bs else written_or bs l.negative (rounded (unit_at k n u) l)
 
 -- a field of lengths
 abbrev pub length_field : Unit → Kind → ℕ → List ℕ → Lone → List ℕ
@@ -124,9 +131,19 @@ abbrev pub counted : Bool → ℕ → ℕ
 counted true n = if nat_lt n 3 then suc n else n
 counted false n = n
 
+-- whether a field is the word behind which a place is polar
+abbrev pub is_polar_word : List ℕ → Bool
+is_polar_word bs = bytes_eq (word_of bs) (codes "POL")
+
+-- what a statement's numbers are behind a field
+abbrev pub kind_behind : Kind → List ℕ → Kind
+kind_behind kind.Places bs = if is_polar_word bs then kind.Polar else kind.Places
+kind_behind k bs = k
+
 -- the next field
 abbrev pub next_field : Place → List ℕ → Place
-next_field p bs = record p { first = false; numbers = counted (is_lone (lone_from unread bs)) p.numbers; broken = false }
+next_field p bs =
+    record p { kind = kind_behind p.kind bs; first = false; numbers = counted (is_lone (lone_from unread bs)) p.numbers; broken = false }
 
 -- whether a field has nothing but blanks
 abbrev pub is_blank_field : List ℕ → Bool

@@ -45,9 +45,10 @@ abbrev pub is_units : Row → Bool
 is_units row.Units = true
 is_units r = false
 
--- whether a row is that of words that do nothing to motions
+-- whether a row is that of words that move nothing and say no length
 abbrev pub is_silent : Row → Bool
 is_silent row.Silent = true
+is_silent row.Plane = true
 is_silent r = false
 
 -- whether the unit is asked for behind a statement: it moves nothing and says no length

@@ -5,5 +5,6 @@ mod lone;
 mod plain;
 mod unit;
 
+pub use lone::millionths_of;
 pub use plain::{Kind, Mode, Place, plain_text};
 pub use unit::{Unit, single_unit};

@@ -1,7 +1,7 @@
 //! Numbers that stand alone in a field.
 
 ghost use Rattle.std.specs.Prelude.{◌≡◌, ◌++◌, ◌<◌, ◌≤◌, OnOk, IsTrue, true};
-ghost use Rattle.vcm_plain.specs.Numbers.{unread, bad, whole_behind, part_behind, digit_behind, point_behind, sign_behind, is_space, lone_behind, lone_from, is_lone, power, rounded, minus_of, written, written_or};
+ghost use Rattle.vcm_plain.specs.Numbers.{unread, bad, whole_behind, part_behind, digit_behind, point_behind, sign_behind, is_space, lone_behind, lone_from, is_lone, power, rounded, minus_of, written, written_or, millionths, millionths_in};
 
 use vcm_num::{NoMemory, write_thousandths};
 
@@ -231,4 +231,22 @@ pub(crate) fn put_lone(
         out.extend_from_slice(field)?;
         Ok(())
     }
+}
+
+// How many millionths a number has, without its sign.
+fn millionths(lone: Lone) -> Option<u64>
+    ensures { result ≡ millionths lone }
+{
+    if is_lone(lone) {
+        Some(lone.value * power(MOST_PLACES.saturating_sub(lone.places)))
+    } else {
+        None
+    }
+}
+
+/// How many millionths the number has that these bytes are, without its sign: digits behind the sixth decimal are left out. None where they are no number, or a large one.
+pub fn millionths_of(bytes: &[u8]) -> Option<u64>
+    ensures { result ≡ millionths_in bytes.now }
+{
+    millionths(lone_of(bytes))
 }

@@ -2,7 +2,7 @@
 
 ghost use Rattle.std.specs.Prelude.{◌≡◌, ◌++◌, ◌∷◌, [], ◌≤◌, ◌<◌, ℕ, List, true, OnOk, IfOk, drop};
 ghost use Rattle.vcm_plain.specs.Numbers.{unread, lone_from, is_lone, is_space};
-ghost use Rattle.vcm_plain.specs.Plain.{Reading, start, word_of, kind_of, is_plain_unit, head_out, is_kind_word, is_setting_word, is_kept, is_kept_word, other_field, unit_at, number_field, length_field, units_field, field_by, field_out, counted, next_field, is_blank_field, onto, wrote, head_behind, head_dollar_behind, fields_behind, broken_place, broken_out, fields_dollar_behind, text_behind, comment_behind, broken_behind, field_text_behind, read_behind, read_from, nothing_read, last_out, written_out, plain};
+ghost use Rattle.vcm_plain.specs.Plain.{Reading, start, word_of, kind_of, is_plain_unit, head_out, is_kind_word, is_setting_word, is_kept, is_kept_word, other_field, unit_at, is_angle, number_field, length_field, units_field, field_by, field_out, counted, kind_behind, next_field, is_blank_field, onto, wrote, head_behind, head_dollar_behind, fields_behind, broken_place, broken_out, fields_dollar_behind, text_behind, comment_behind, broken_behind, field_text_behind, read_behind, read_from, nothing_read, last_out, written_out, plain};
 
 use crate::lone::{Lone, is_lone, lone_of, put_lone};
 use crate::unit::Unit;
@@ -42,6 +42,8 @@ pub enum Kind {
     Units,
     /// A place, and a direction behind it.
     Places,
+    /// The same, by a radius, an angle and a height.
+    Polar,
     /// Lengths, all of them.
     Lengths,
 }
@@ -209,8 +211,18 @@ fn unit_at(kind: Kind, numbers: u8, unit: Unit) -> u64
     ensures most { result ≤ 1000000 }
 {
     match kind {
-        Kind::Places if numbers >= 3 => 1_000,
+        Kind::Places | Kind::Polar if numbers >= 3 => 1_000,
         _ => unit.micrometres(),
+    }
+}
+
+// Whether one of a statement's numbers, behind so many of them, is an angle.
+fn is_angle(kind: Kind, numbers: u8) -> bool
+    ensures { result ≡ is_angle kind numbers }
+{
+    match kind {
+        Kind::Polar => numbers == 1,
+        _ => false,
     }
 }
 
@@ -226,7 +238,7 @@ fn put_number(
     requires { lone.value < 1000000000000 }
     ensures { OnOk result (out.new.items ≡ out.old.items ++ number_field unit kind numbers bytes.now lone) }
 {
-    if is_plain_unit(unit) && !lone.fine {
+    if is_angle(kind, numbers) || (is_plain_unit(unit) && !lone.fine) {
         out.extend_from_slice(bytes)?;
         Ok(())
     } else {
@@ -280,7 +292,7 @@ fn put_field(
             Ok(())
         }
         Kind::Units => put_units(unit, place.first, bytes, out),
-        Kind::Places | Kind::Lengths => {
+        Kind::Places | Kind::Polar | Kind::Lengths => {
             if place.broken {
                 put_other(alloc, unit, bytes, out)
             } else {
@@ -290,21 +302,38 @@ fn put_field(
     }
 }
 
+// What a statement's numbers are behind a field.
+fn kind_behind(alloc: Global, kind: Kind, bytes: &[u8]) -> Result<Kind, NoMemory>
+    ensures { IfOk result (λ k. k ≡ kind_behind kind bytes.now) }
+{
+    match kind {
+        Kind::Places => {
+            if is(&word_of(alloc, bytes)?, b"POL") {
+                Ok(Kind::Polar)
+            } else {
+                Ok(Kind::Places)
+            }
+        }
+        _ => Ok(kind),
+    }
+}
+
 // The next field.
-fn next_field(place: Place, bytes: &[u8]) -> Place
-    ensures { result ≡ next_field place bytes.now }
+fn next_field(alloc: Global, place: Place, bytes: &[u8]) -> Result<Place, NoMemory>
+    ensures { IfOk result (λ p. p ≡ next_field place bytes.now) }
 {
     let numbers = if is_lone(lone_of(bytes)) && place.numbers < 3 {
         place.numbers + 1
     } else {
         place.numbers
     };
-    Place {
+    Ok(Place {
+        kind: kind_behind(alloc, place.kind, bytes)?,
         first: false,
         numbers,
         broken: false,
         ..place
-    }
+    })
 }
 
 // Whether a field has nothing but blanks.
@@ -457,7 +486,7 @@ impl Reader {
     {
         match byte {
             b',' => {
-                let place = next_field(self.place, &self.field);
+                let place = next_field(alloc, self.place, &self.field)?;
                 self.write_field(alloc, unit, place, b",")
             }
             b'\n' => self.write_field(alloc, unit, start(), b"\n"),

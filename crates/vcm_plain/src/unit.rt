@@ -58,11 +58,11 @@ fn is_units(row: Row) -> bool
     matches!(row, Row::Units)
 }
 
-// Whether a row is that of words that do nothing to motions.
+// Whether a row is that of words that move nothing and say no length.
 fn is_silent(row: Row) -> bool
     ensures { result ≡ is_silent row }
 {
-    matches!(row, Row::Silent)
+    matches!(row, Row::Silent | Row::Plane)
 }
 
 // The unit that the fields of UNITS set.

@@ -32,6 +32,8 @@ pub enum Remark {
     Approached,
     /// An output line of the text isn't written here: its feature was measured in another frame, or not.
     NotReported,
+    /// Another sensor than the one before is selected here: what comes after it is tried with the tip of the part all the same.
+    AnotherTip,
     /// From here on this isn't known.
     Loses(Cause),
     /// Nothing is tried from here on: the run goes to its end.

@@ -35,6 +35,16 @@ fn image_of(alloc: Global, accepted: &Accepted) -> Result<Vec<u8>, NoMemory>
     write(alloc, &code)
 }
 
+// The image of an accepted program, with its notices.
+fn built_of(alloc: Global, accepted: &Accepted) -> Result<Built, NoMemory>
+    ensures image { IfOk result (λ b. IsImageOf accepted.now b.image.items) }
+    ensures notices { IfOk result (λ b. b.notices.items ≡ accepted.now.notices) }
+{
+    let image = image_of(alloc, accepted)?;
+    let notices = Vec::from_slice(alloc, accepted.notices())?;
+    Ok(Built { image, notices })
+}
+
 /// The image of the program that statements are, wherever they come from.
 ///
 /// Errors: `Source` where they are refused (their first fault, or want of memory at line 0); want of memory where memory is refused after acceptance. It
@@ -48,11 +58,8 @@ pub fn build_statements(alloc: Global, read: Vec<Statement>) -> Result<Built, Re
         Ok(accepted) => accepted,
         Err(fault) => return Err(Refusal::Source(fault)),
     };
-    match image_of(alloc, &accepted) {
-        Ok(image) => {
-            let notices = accepted.into_notices();
-            Ok(Built { image, notices })
-        }
+    match built_of(alloc, &accepted) {
+        Ok(built) => Ok(built),
         Err(_) => Err(Refusal::NoMemory),
     }
 }
@@ -78,11 +85,8 @@ pub fn build_placed(
         Ok(accepted) => accepted,
         Err(fault) => return Err(Refusal::Source(fault)),
     };
-    match image_of(alloc, &accepted) {
-        Ok(image) => {
-            let notices = accepted.into_notices();
-            Ok(Built { image, notices })
-        }
+    match built_of(alloc, &accepted) {
+        Ok(built) => Ok(built),
         Err(_) => Err(Refusal::NoMemory),
     }
 }

@@ -1,4 +1,5 @@
 pub mod Places
+pub mod Polar
 pub mod Said
 pub mod All
 pub mod Samples

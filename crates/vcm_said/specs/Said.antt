@@ -31,10 +31,11 @@ use Rattle.vcm_heads.specs.declared.rows.Row.TheVariants as row
 use Rattle.vcm_heads.specs.Steps.{◌>>=◌}
 use Rattle.vcm_events.specs.Events.{valued, event_form, lost, gained}
 use Rattle.vcm_events.specs.Unknown.{unknown, unknown_place, unknown_rounds}
-use Rattle.vcm_heads.specs.Heads.{past, run_at, past_word, label_at, title_at, assigned_at, major_of, behind_of, first_field, is_label}
+use Rattle.vcm_heads.specs.Heads.{past, run_at, past_word, label_at, title_at, assigned_at, word_in, major_of, behind_of, first_field, is_label}
 use Rattle.vcm_heads.specs.Rows.{row_in}
 use Rattle.vcm_events.specs.declared.spots.Spot.TheVariants as spots
 use Rattle.vcm_events.specs.Spots.{spotted}
+use Rattle.vcm_said.specs.Polar.{polar_motion, polar_touch}
 use Rattle.vcm_said.specs.Places.{place_given, step_at, slant_at, names_table, names_head}
 
 -- ---- what isn't known
@@ -203,6 +204,15 @@ recall_otherwise None word = recall_lost word
 abbrev pub turning : List Lexeme → List Form
 turning ws = (if names_table ws then one (lost events.Table) else []) ++ (if names_head ws then one (lost events.Sensor) else [])
 
+-- a motion or a point by a polar place, with the event that ends it: it is followed where the plane and the unit of angles are known
+abbrev pub polar_said : Form → Event → List Form
+polar_said f end = gained events.Polar ∷ f ∷ gained end ∷ []
+
+-- the same, or else these
+abbrev pub polar_or : Option Form → Event → List Form → List Form
+polar_or None end fs = fs
+polar_or (Some f) end fs = polar_said f end
+
 -- a motion of another form: a step from the probe's place, or one that isn't tried
 abbrev pub motion_otherwise : Option Form → List Lexeme → List Form
 motion_otherwise (Some f) ws = one f
@@ -245,10 +255,19 @@ mode_said word =
     else if bytes_eq word (codes "AUTO") then gained events.Mode ∷ lost events.OwnPoints ∷ []
     else one (lost events.Mode)
 
--- units: those of the language, or others
-abbrev pub units_said : Option Form → List Form
-units_said None = one (lost events.Unit)
-units_said (Some f) = one (gained events.Unit)
+-- the word behind the first field
+abbrev pub second_field_at : List Lexeme → Option (List ℕ × List Lexeme)
+second_field_at behind = do
+  fields ← past marks.Slash behind
+  first ← run_at fields
+  rest ← past marks.Comma first.1
+  run_at rest
+
+-- units: the first word is that of lengths, the second one that of angles
+abbrev pub units_said : List Lexeme → List Form
+units_said behind =
+    turns events.Unit (bytes_eq (first_field behind) (codes "MM"))
+    ∷ turns events.Angle (bytes_eq (word_in (second_field_at behind)) (codes "ANGDEC")) ∷ []
 
 -- a frame that is saved on a device
 abbrev pub saved : List ℕ → List Form
@@ -265,10 +284,10 @@ row_said row.Shape f line ws behind = stated f
 row_said row.Stated f line ws behind = stated f
 row_said row.Output f line ws behind = or_said f (report_at (past marks.Slash behind))
 row_said row.Value f line ws behind = or_said f (value_lost (assigned_at ws))
-row_said row.Motion f line ws behind = or_said f (motion_otherwise (step_at behind) behind)
+row_said row.Motion f line ws behind = or_said f (polar_or (polar_motion behind) events.PolarMotion (motion_otherwise (step_at behind) behind))
 row_said row.Aim f line ws behind = one (spotted spots.Target (place_given behind))
 row_said row.Target f line ws behind = one (gained events.Target)
-row_said row.Touch f line ws behind = or_said f (touch_otherwise (slant_at behind) behind)
+row_said row.Touch f line ws behind = or_said f (polar_or (polar_touch behind) events.PolarPoint (touch_otherwise (slant_at behind) behind))
 row_said row.Scan f line ws behind = one (gained events.UntriedPoint)
 row_said row.Text f line ws behind = or_said f (text_lost (first_field behind) behind)
 row_said row.Test f line ws behind = or_said f (one (Test unknown))
@@ -286,10 +305,11 @@ row_said row.Recall f line ws behind = or_said f (recall_otherwise (datum_at beh
 row_said row.Save f line ws behind = saved (first_field behind)
 row_said row.Delete f line ws behind = lost events.Frames ∷ lost events.Features ∷ []
 row_said row.Mode f line ws behind = mode_said (first_field behind)
-row_said row.Units f line ws behind = units_said f
+row_said row.Units f line ws behind = units_said behind
 row_said row.Scanning f line ws behind = one (turns events.Scanning (bytes_eq (first_field behind) (codes "OFF")))
 row_said row.Table f line ws behind = one (lost events.Table)
 row_said row.Compensation f line ws behind = one (turns events.Compensation (bytes_eq (first_field behind) (codes "ON")))
+row_said row.Plane f line ws behind = one (turns events.Plane (bytes_eq (first_field behind) (codes "XYPLAN")))
 row_said row.Sensor f line ws behind = sensor_said (is_plain_sensor (past marks.Slash behind)) line
 row_said row.From f line ws behind = one (spotted spots.Home (place_given behind))
 row_said row.Values f line ws behind = lost events.Values ∷ lost events.Features ∷ []

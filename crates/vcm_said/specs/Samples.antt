@@ -1,5 +1,5 @@
 -- Worked examples: what statements say, row by row of the table, computed.
-use Rattle.std.specs.Prelude.{◌≡◌, refl, ℕ, pos, List, [], ◌∷◌, ◌++◌, codes}
+use Rattle.std.specs.Prelude.{◌≡◌, refl, ℕ, pos, negsuc, Some, List, [], ◌∷◌, ◌++◌, codes}
 use Rattle.vcm_num.specs.declared.axis.Axis.TheVariants.{PlusZ}
 use Rattle.vcm_num.specs.declared.number.Literal.TheVariants.{Int, Thousandths}
 use Rattle.vcm_spec.specs.declared.words.FrameAxis.TheVariants as axes
@@ -13,12 +13,14 @@ use Rattle.vcm_expr.specs.Digits.{read_of}
 use Rattle.vcm_syntax.specs.Statements.{statement_of}
 use Rattle.vcm_forms.specs.Statements.{as_read}
 use Rattle.vcm_forms.specs.declared.statement.Form.{Form}
-use Rattle.vcm_forms.specs.declared.statement.Form.TheVariants.{Assignment, Test, Repeat, Choose, Feature, Measure, MeasureEnd, Configure, Shift, Restore, Move, Home, Report}
+use Rattle.vcm_forms.specs.declared.statement.Form.TheVariants.{Assignment, Test, Repeat, Choose, Feature, Measure, MeasureEnd, Configure, Shift, Restore, Move, Touch, Home, Report}
 use Rattle.vcm_events.specs.declared.event.Event.TheVariants as events
 use Rattle.vcm_events.specs.Events.{valued, event_form, lost, gained}
+use Rattle.vcm_events.specs.Joined.{length_of}
 use Rattle.vcm_events.specs.Unknown.{unknown, unknown_place, unknown_rounds}
 use Rattle.vcm_events.specs.declared.spots.Spot.TheVariants as spots
 use Rattle.vcm_events.specs.Spots.{spotted, slanted}
+use Rattle.vcm_said.specs.Polar.{along, across}
 use Rattle.vcm_said.specs.Said.{said}
 
 -- what words say on line 9
@@ -67,13 +69,25 @@ automatic = refl
 pub by_hand : says (pair (codes "MODE") (codes "MAN")) ≡ lost events.Mode ∷ []
 by_hand = refl
 
-pub millimetres : says (word (codes "UNITS") ∷ Slash ∷ word (codes "MM") ∷ Comma ∷ word (codes "ANGDEC") ∷ []) ≡ gained events.Unit ∷ []
+pub millimetres : says (word (codes "UNITS") ∷ Slash ∷ word (codes "MM") ∷ Comma ∷ word (codes "ANGDEC") ∷ []) ≡ gained events.Unit ∷ gained events.Angle ∷ []
 unfolding statement_of read_symbols read_of
 millimetres = refl
 
-pub inches : says (word (codes "UNITS") ∷ Slash ∷ word (codes "INCH") ∷ Comma ∷ word (codes "ANGDEC") ∷ []) ≡ lost events.Unit ∷ []
+pub inches : says (word (codes "UNITS") ∷ Slash ∷ word (codes "INCH") ∷ Comma ∷ word (codes "ANGDEC") ∷ []) ≡ lost events.Unit ∷ gained events.Angle ∷ []
 unfolding statement_of read_symbols read_of
 inches = refl
+
+pub radians : says (word (codes "UNITS") ∷ Slash ∷ word (codes "MM") ∷ Comma ∷ word (codes "ANGRAD") ∷ []) ≡ gained events.Unit ∷ lost events.Angle ∷ []
+unfolding statement_of read_symbols read_of
+radians = refl
+
+pub level_plane : says (pair (codes "WKPLAN") (codes "XYPLAN")) ≡ gained events.Plane ∷ []
+unfolding statement_of read_symbols read_of
+level_plane = refl
+
+pub upright_plane : says (pair (codes "WKPLAN") (codes "ZXPLAN")) ≡ lost events.Plane ∷ []
+unfolding statement_of read_symbols read_of
+upright_plane = refl
 
 pub scanning : says (pair (codes "SCNMOD") (codes "ON")) ≡ lost events.Scanning ∷ []
 scanning = refl
@@ -98,10 +112,39 @@ pub motion :
 unfolding statement_of read_symbols read_of
 motion = refl
 
-pub polar : says (word (codes "GOTO") ∷ Slash ∷ word (codes "POL") ∷ Comma ∷ word (codes "2") ∷ Comma ∷ word (codes "9") ∷ Comma ∷ word (codes "3") ∷ [])
-    ≡ gained events.Untried ∷ []
-unfolding statement_of read_symbols read_of
+-- three words behind a comma each
+abbrev pub fields : (a b c : List ℕ) → List Lexeme
+fields a b c = Comma ∷ word a ∷ Comma ∷ word b ∷ Comma ∷ word c ∷ []
+
+-- a polar place of these fields, behind a major word
+abbrev pub polar_words : (major : List ℕ) → List Lexeme → List Lexeme
+polar_words major ws = word major ∷ Slash ∷ word (codes "POL") ∷ ws
+
+-- 100 mm at 30 degrees: 86.603 along X, 50 along Y
+pub polar : says (polar_words (codes "GOTO") (fields (codes "100") (codes "30") (codes "3")))
+    ≡ gained events.Polar ∷ Move (record { x = micrometres 86603; y = micrometres 50000; z = whole 3 }) ∷ gained events.PolarMotion ∷ []
+unfolding statement_of read_symbols read_of along across
 polar = refl
+
+-- 100 mm at -60.5 degrees: 49.242 along X, 87.036 against Y
+pub polar_below : says (polar_words (codes "GOTO") (Comma ∷ word (codes "100") ∷ Comma ∷ Minus ∷ Digits (codes "60.5") ∷ Comma ∷ word (codes "3") ∷ []))
+    ≡ gained events.Polar ∷ Move (record { x = micrometres 49242; y = length_of (negsuc 87035); z = whole 3 }) ∷ gained events.PolarMotion ∷ []
+unfolding statement_of read_symbols read_of along across
+polar_below = refl
+
+pub polar_by_variable : says (polar_words (codes "GOTO") (fields (codes "V") (codes "30") (codes "3"))) ≡ gained events.Untried ∷ []
+unfolding statement_of read_symbols read_of along across
+polar_by_variable = refl
+
+pub polar_point : says (polar_words (codes "PTMEAS") (fields (codes "100") (codes "90") (codes "3") ++ fields (codes "0") (codes "0") (codes "1")))
+    ≡ gained events.Polar ∷ Touch (record { x = micrometres 0; y = micrometres 100000; z = whole 3 }) (Some PlusZ) ∷ gained events.PolarPoint ∷ []
+unfolding statement_of read_symbols read_of along across
+polar_point = refl
+
+pub polar_slanted : says (polar_words (codes "PTMEAS") (fields (codes "100") (codes "180") (codes "3") ++ Comma ∷ Digits (codes "0.6") ∷ Comma ∷ word (codes "0") ∷ Comma ∷ Digits (codes "0.8") ∷ []))
+    ≡ gained events.UntriedPoint ∷ []
+unfolding statement_of read_symbols read_of along across
+polar_slanted = refl
 
 pub home : says (word (codes "GOHOME") ∷ []) ≡ Home ∷ []
 unfolding statement_of read_symbols read_of
@@ -109,10 +152,6 @@ home = refl
 
 pub end_of_target : says (word (codes "ENDGO") ∷ []) ≡ gained events.Target ∷ []
 end_of_target = refl
-
--- three words behind a comma each
-abbrev pub fields : (a b c : List ℕ) → List Lexeme
-fields a b c = Comma ∷ word a ∷ Comma ∷ word b ∷ Comma ∷ word c ∷ []
 
 pub aim : says (word (codes "GOTARG") ∷ Slash ∷ word (codes "CART") ∷ fields (codes "1") (codes "2") (codes "3"))
     ≡ spotted spots.Target (record { x = whole 1; y = whole 2; z = whole 3 }) ∷ []

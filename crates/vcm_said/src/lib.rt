@@ -3,6 +3,7 @@
 #![tactic(auto)]
 
 mod places;
+mod polar;
 mod said;
 mod wanted;
 

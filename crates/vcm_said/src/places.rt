@@ -26,8 +26,8 @@ fn read(alloc: Global, words: &Phrase<'_>) -> Result<Option<Expr>, NoMemory>
     }
 }
 
-// The expression that the first of fields is, and the fields behind it.
-fn expression_at<'a>(
+/// The expression that the first of fields is, and the fields behind it.
+pub(crate) fn expression_at<'a>(
     alloc: Global,
     fields: Option<Phrase<'a>>,
 ) -> Result<Option<(Expr, Option<Phrase<'a>>)>, NoMemory>
@@ -187,8 +187,8 @@ fn component_at<'a>(
     }
 }
 
-// The direction that three fields are, the last ones.
-fn direction_at(
+/// The direction that three fields are, the last ones.
+pub(crate) fn direction_at(
     alloc: Global,
     fields: Option<Phrase<'_>>,
 ) -> Result<Option<(i32, i32, i32)>, NoMemory>
@@ -226,8 +226,8 @@ fn are_none(a: i32, b: i32) -> bool
     a == 0 && b == 0
 }
 
-// The axis that a direction goes along.
-fn axis_of(direction: (i32, i32, i32)) -> Option<Axis>
+/// The axis that a direction goes along.
+pub(crate) fn axis_of(direction: (i32, i32, i32)) -> Option<Axis>
     ensures { result ≡ axis_of direction }
 {
     let (i, j, k) = direction;

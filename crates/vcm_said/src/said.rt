@@ -3,6 +3,7 @@
 ghost use Rattle.std.specs.Prelude.{◌≡◌, ◌++◌, ◌∷◌, [], map, ℤ, pos, Some, None, IfOk, OnOk, option_map};
 ghost use Rattle.std.specs.Prelude.{codes, true, false, List, if◌then◌else◌};
 ghost use Rattle.vcm_events.specs.Spots.{spotted};
+ghost use Rattle.vcm_said.specs.Polar.{polar_motion, polar_touch};
 ghost use Rattle.vcm_said.specs.Places.{place_given, step_at, slant_at, names_table, names_head};
 ghost use Rattle.vcm_lines.specs.Lexemes.{Lexeme};
 ghost use Rattle.vcm_syntax.specs.Statements.{statement_of};
@@ -13,12 +14,13 @@ ghost use Rattle.vcm_events.specs.declared.event.Event.TheVariants as events;
 ghost use Rattle.vcm_events.specs.Events.{valued, event_form, lost, gained};
 ghost use Rattle.vcm_events.specs.Unknown.{unknown};
 ghost use Rattle.vcm_heads.specs.declared.heads.Mark.TheVariants as marks;
-ghost use Rattle.vcm_heads.specs.Heads.{past, first_field, assigned_at, title_at, major_of};
+ghost use Rattle.vcm_heads.specs.Heads.{past, first_field, assigned_at, title_at, word_in, major_of};
 ghost use Rattle.vcm_heads.specs.Rows.{row_in, words_of, own_behind};
-ghost use Rattle.vcm_said.specs.Said.{wanted_in, spelled_in, stated, or_said, turns, value_lost, answer_lost, asked_at, text_lost, call_said, feature_lost, measured_at, measure_lost, qualified, setting_said, settings_lost, is_clearance_off, settings_otherwise, settings_said, machine_frame, frame_lost, frame_otherwise, datum_at, recall_lost, recall_otherwise, turning, motion_otherwise, touch_otherwise, is_lone_label, is_plain_sensor, sensor_said, reported, report_at, mode_said, units_said, saved, row_said, said};
+ghost use Rattle.vcm_said.specs.Said.{wanted_in, spelled_in, stated, or_said, turns, value_lost, answer_lost, asked_at, text_lost, call_said, feature_lost, measured_at, measure_lost, qualified, setting_said, settings_lost, is_clearance_off, settings_otherwise, settings_said, machine_frame, frame_lost, frame_otherwise, datum_at, recall_lost, recall_otherwise, turning, motion_otherwise, touch_otherwise, is_lone_label, is_plain_sensor, sensor_said, reported, report_at, mode_said, second_field_at, units_said, polar_said, polar_or, saved, row_said, said};
 ghost use Rattle.vcm_said.specs.All.{on_line, said_unless, said_from, said_all, shape_fault, refused_from};
 
 use crate::places::{names_head, names_table, place_given, slant_at, step_at};
+use crate::polar::{polar_motion, polar_touch};
 use crate::wanted::wanted;
 use std::alloc::Global;
 use vcm_events::{
@@ -395,6 +397,15 @@ fn lose_both(
     loses(out, line, second)
 }
 
+// A motion or a point by a polar place, with the event that ends it.
+fn say_polar(out: &mut Vec<Statement>, line: u32, form: Form, end: Event) -> Result<(), NoMemory>
+    ensures { OnOk result (out.new.items ≡ out.old.items ++ on_line line (polar_said form end)) }
+{
+    gains(out, line, Event::Polar)?;
+    add(out, line, form)?;
+    gains(out, line, end)
+}
+
 // A motion of another form.
 fn say_motion(
     alloc: Global,
@@ -402,8 +413,11 @@ fn say_motion(
     line: u32,
     behind: &Phrase<'_>,
 ) -> Result<(), NoMemory>
-    ensures { OnOk result (out.new.items ≡ out.old.items ++ on_line line (motion_otherwise (step_at behind.now) behind.now)) }
+    ensures { OnOk result (out.new.items ≡ out.old.items ++ on_line line (polar_or (polar_motion behind.now) events.PolarMotion (motion_otherwise (step_at behind.now) behind.now))) }
 {
+    if let Some(form) = polar_motion(alloc, behind)? {
+        return say_polar(out, line, form, Event::PolarMotion);
+    }
     if let Some(form) = step_at(alloc, behind)? {
         return add(out, line, form);
     }
@@ -418,8 +432,11 @@ fn say_touch(
     line: u32,
     behind: &Phrase<'_>,
 ) -> Result<(), NoMemory>
-    ensures { OnOk result (out.new.items ≡ out.old.items ++ on_line line (touch_otherwise (slant_at behind.now) behind.now)) }
+    ensures { OnOk result (out.new.items ≡ out.old.items ++ on_line line (polar_or (polar_touch behind.now) events.PolarPoint (touch_otherwise (slant_at behind.now) behind.now))) }
 {
+    if let Some(form) = polar_touch(alloc, behind)? {
+        return say_polar(out, line, form, Event::PolarPoint);
+    }
     if let Some(form) = slant_at(alloc, behind)? {
         return add(out, line, form);
     }
@@ -524,6 +541,34 @@ fn say_report(out: &mut Vec<Statement>, line: u32, behind: &Phrase<'_>) -> Resul
     }
 }
 
+// The word behind the first field.
+fn second_field<'a>(behind: &Phrase<'a>) -> &'a [u8]
+    ensures { result.now ≡ word_in (second_field_at behind.now) }
+{
+    match second_field_at(behind) {
+        Some((word, _)) => word,
+        None => b"",
+    }
+}
+
+// The same, and the words behind it.
+fn second_field_at<'a>(behind: &Phrase<'a>) -> Option<(&'a [u8], Phrase<'a>)>
+    ensures { option_map (λ r. (r.0.now, r.1)) result ≡ second_field_at behind.now }
+{
+    let fields = past(Mark::Slash, behind)?;
+    let (_, rest) = run_at(&fields)?;
+    let second = past(Mark::Comma, &rest)?;
+    run_at(&second)
+}
+
+// UNITS.
+fn say_units(out: &mut Vec<Statement>, line: u32, behind: &Phrase<'_>) -> Result<(), NoMemory>
+    ensures { OnOk result (out.new.items ≡ out.old.items ++ on_line line (units_said behind.now)) }
+{
+    turns(out, line, Event::Unit, is(first_field(behind), b"MM"))?;
+    turns(out, line, Event::Angle, is(second_field(behind), b"ANGDEC"))
+}
+
 // A place that is kept for later.
 fn say_spot(
     alloc: Global,
@@ -571,7 +616,7 @@ fn say_otherwise(
         Row::Save => say_saved(out, line, first_field(behind)),
         Row::Delete => lose_both(out, line, Event::Frames, Event::Features),
         Row::Mode => say_mode(out, line, first_field(behind)),
-        Row::Units => loses(out, line, Event::Unit),
+        Row::Units => say_units(out, line, behind),
         Row::Scanning => turns(out, line, Event::Scanning, is(first_field(behind), b"OFF")),
         Row::Table => loses(out, line, Event::Table),
         Row::Compensation => turns(
@@ -580,6 +625,7 @@ fn say_otherwise(
             Event::Compensation,
             is(first_field(behind), b"ON"),
         ),
+        Row::Plane => turns(out, line, Event::Plane, is(first_field(behind), b"XYPLAN")),
         Row::Sensor => say_sensor(out, line, behind),
         Row::From => say_spot(alloc, out, line, Spot::Home, behind),
         Row::Values => lose_both(out, line, Event::Values, Event::Features),
@@ -602,7 +648,6 @@ fn say_spelled(
     match row {
         Row::Call => add(out, line, form)?,
         Row::Settings => say_settings(out, line, Some(form), behind)?,
-        Row::Units => gains(out, line, Event::Unit)?,
         Row::Shape | Row::Stated | Row::Output | Row::Value => add(out, line, form)?,
         Row::Motion | Row::Touch => add(out, line, form)?,
         Row::Text | Row::Test | Row::Loop | Row::Choice | Row::Feature => add(out, line, form)?,

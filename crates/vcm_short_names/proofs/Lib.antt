@@ -6,3 +6,4 @@ pub mod Free
 pub mod Full
 pub mod Runs
 pub mod Spelled
+pub mod Unshortened

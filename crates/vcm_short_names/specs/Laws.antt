@@ -5,6 +5,7 @@ use Rattle.vcm_items.specs.NameBytes.{is_name}
 use Rattle.vcm_short_names.specs.declared.short.ShortName.{ShortName}
 use Rattle.vcm_short_names.specs.Pieces.{pieces, words}
 use Rattle.vcm_short_names.specs.Short.{is_long, is_same, short_names, shortened}
+use Rattle.vcm_short_names.specs.Lengthened.{is_short, lengthened}
 
 -- the pieces of a text, one behind the other, are the text
 abbrev pub PiecesAreTheText : Type 0
@@ -38,3 +39,7 @@ NamesAreNoWords = (text : List ℕ) → list_all (is_no_word (words text)) (shor
 -- each short name is a name of the language
 abbrev pub ShortNamesAreNames : Type 0
 ShortNamesAreNames = (text : List ℕ) → list_all (λ n. is_name n.short) (short_names text) ≡ true
+
+-- where names are written long, a text none of whose words is one of the short names stays as it is
+abbrev pub OtherWordsStay : Type 0
+OtherWordsStay = (names : List ShortName) (text : List ℕ) → list_any (is_short names) (words text) ≡ false → lengthened names text ≡ text

@@ -2,6 +2,7 @@
 use Rattle.std.specs.Prelude.{◌≡◌, refl, ℕ, List, [], ◌∷◌, ◌++◌, codes}
 use Rattle.vcm_short_names.specs.Pieces.{words}
 use Rattle.vcm_short_names.specs.Short.{short_names, shortened, free_from}
+use Rattle.vcm_short_names.specs.Lengthened.{lengthened}
 
 -- the end of a line
 abbrev pub end : List ℕ
@@ -70,3 +71,10 @@ spelled_twice = refl
 pub spelled_numbered : shortened (codes "ABCDEFGHIJKLMNOP/Abcdefghijklmnopq=ABCDEFGHIJKLMNOPQ") ≡ codes "ABCDEFGHIJKLMNOP/Abcdefghijklm_01=ABCDEFGHIJKLM_01"
 unfolding free_from
 spelled_numbered = refl
+
+-- ---- written long again
+
+pub long_again : lengthened (short_names two_pallets) (codes "3,5,GROBAUSRICHTU_01,20.000" ++ end ++ codes "X GROBAUSRICHTUNG_ 'GROBAUSRICHTUNG_'")
+    ≡ codes "3,5,GROBAUSRICHTUNG_2,20.000" ++ end ++ codes "X GROBAUSRICHTUNG_1 'GROBAUSRICHTUNG_'"
+unfolding free_from
+long_again = refl

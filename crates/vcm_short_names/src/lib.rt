@@ -11,10 +11,12 @@
 #![tactic(auto)]
 
 pub mod laws;
+mod lengthened;
 mod long;
 mod pieces;
 mod short;
 
+pub use lengthened::{lengthen_names, long_name, long_out};
 pub use short::{ShortName, Shortened, shorten_names};
 
 #[cfg(test)]

@@ -46,6 +46,8 @@ carried_name carried.Touched = codes "TOUCHED"
 carried_name carried.HomeFrame = codes "HOMEFRAME"
 carried_name carried.TargetFrame = codes "TARGETFRAME"
 carried_name carried.ProbeFrame = codes "PROBEFRAME"
+carried_name carried.Angle = codes "ANGLE"
+carried_name carried.Plane = codes "PLANE"
 
 -- the names of what is carried of each variable, frame and feature of the text; their expansions tell them apart
 abbrev pub item_name : Item → List ℕ
@@ -53,6 +55,10 @@ item_name items.Known = codes "KNOWN"
 item_name items.Saved = codes "SAVED"
 item_name items.Measured = codes "MEASURED"
 item_name items.Nominal = codes "NOMINAL"
+item_name items.AlongX = codes "ALONGX"
+item_name items.AlongY = codes "ALONGY"
+item_name items.AlongZ = codes "ALONGZ"
+item_name items.Beside = codes "BESIDE"
 
 -- what is carried, as the target of an assignment
 abbrev pub carried_target : Carried → Target
@@ -80,7 +86,8 @@ first_carried =
 abbrev pub last_carried : List Carried
 last_carried =
     carried.Epoch ∷ carried.OwnPoints ∷ carried.Clearance ∷ carried.Compensation ∷ carried.Qualification ∷ carried.Home ∷ carried.Floor
-    ∷ carried.Saving ∷ carried.Values ∷ carried.Features ∷ carried.Points ∷ carried.Wanted ∷ carried.Single ∷ carried.Sensor ∷ carried.Touched ∷ []
+    ∷ carried.Saving ∷ carried.Values ∷ carried.Features ∷ carried.Points ∷ carried.Wanted ∷ carried.Single ∷ carried.Sensor ∷ carried.Touched ∷ carried.Angle
+    ∷ carried.Plane ∷ []
 
 -- those that are 1 at the start
 abbrev pub known_first : List Carried

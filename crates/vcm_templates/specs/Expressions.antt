@@ -1,18 +1,15 @@
 -- Expressions over what is carried.
-use Rattle.std.specs.Prelude.{ℕ, ℤ, pos, Bool, true, false, ◌&&◌, not, if◌then◌else◌, List, [], ◌∷◌, Result, Ok, Err}
-use Rattle.std.specs.List.{list_any}
+use Rattle.std.specs.Prelude.{ℕ, ℤ, pos, Bool, true, false, if◌then◌else◌, List, [], ◌∷◌, Result, Ok, Err}
 use Rattle.vcm_num.specs.declared.number.Literal.TheVariants.{Int}
 use Rattle.vcm_lines.specs.declared.fault.FaultCode.{FaultCode}
 use Rattle.vcm_spec.specs.declared.expression.BinaryOp.{BinaryOp}
-use Rattle.vcm_spec.specs.declared.expression.BinaryOp.TheVariants.{Add, Div, And, Compare}
+use Rattle.vcm_spec.specs.declared.expression.BinaryOp.TheVariants.{Add, And, Compare}
 use Rattle.vcm_spec.specs.declared.expression.Relation.TheVariants.{Equal, NotEqual}
 use Rattle.vcm_spec.specs.Setup.{Variable}
 use Rattle.vcm_expr.specs.declared.expression.Term.{Term}
 use Rattle.vcm_expr.specs.declared.expression.Term.TheVariants.{Number, Truth}
-use Rattle.vcm_expr.specs.declared.expression.Piece.{Piece}
-use Rattle.vcm_expr.specs.declared.expression.Piece.TheVariants.{Between}
 use Rattle.vcm_expr.specs.declared.typing.Want.{Want}
-use Rattle.vcm_expr.specs.Source.{Source, Plain, Pair, parts, is_small}
+use Rattle.vcm_expr.specs.Source.{Source, Plain, Pair, is_small}
 use Rattle.vcm_expr.specs.Typing.{typed_for}
 use Rattle.vcm_templates.specs.declared.carried.Carried.{Carried}
 use Rattle.vcm_templates.specs.declared.carried.Carried.TheVariants as carried
@@ -62,16 +59,11 @@ is_kept_here k = pair (Compare Equal) (carried_term (frame_of k)) (carried_term 
 
 -- ---- expressions of the text
 
--- whether a part is a quotient: its value is cut off, and may be another one than the machine's
-abbrev pub is_quotient : Piece → Bool
-is_quotient (Between Div) = true
-is_quotient p = false
-
 -- whether a result is one
 abbrev pub is_found : {A : Type 0} → Result A FaultCode → Bool
 is_found (Ok x) = true
 is_found (Err c) = false
 
--- whether an expression has a value at this place that is the machine's, behind these variables: it is one of the language, without quotients
+-- whether an expression has a value at this place, behind these variables: it is one of the language. Its quotients are exact fractions of what they are made of
 abbrev pub has_form : List Variable → Want → Source → Bool
-has_form vs want e = not (list_any is_quotient (parts e)) && is_found (typed_for vs want e)
+has_form vs want e = is_found (typed_for vs want e)

@@ -1,6 +1,7 @@
 -- How statements are put: what is asked first, what is done where it is known, what is told elsewhere.
-use Rattle.std.specs.Prelude.{ℕ, ℤ, pos, codes, Bool, true, false, List, [], ◌∷◌, ◌++◌, Option, Some, None}
+use Rattle.std.specs.Prelude.{ℕ, ℤ, pos, codes, Bool, true, false, if◌then◌else◌, List, [], ◌∷◌, ◌++◌, Option, Some, None}
 use Rattle.std.specs.List.{flat_map}
+use Rattle.vcm_num.specs.declared.number.Kind.{Kind}
 use Rattle.vcm_num.specs.declared.number.Kind.TheVariants as kinds
 use Rattle.vcm_spec.specs.declared.expression.BinaryOp.TheVariants.{Add, Mul, Compare}
 use Rattle.vcm_spec.specs.declared.expression.Relation.TheVariants.{Equal}
@@ -20,9 +21,14 @@ use Rattle.vcm_templates.specs.declared.carried.Carried.{Carried}
 use Rattle.vcm_templates.specs.declared.carried.Carried.TheVariants as carried
 use Rattle.vcm_templates.specs.declared.carried.Item.{Item}
 use Rattle.vcm_templates.specs.declared.carried.Item.TheVariants as items
-use Rattle.vcm_templates.specs.declared.carried.TheConstants.{IMPLICIT, FEATURES_STEP}
+use Rattle.vcm_templates.specs.declared.carried.TheConstants.{IMPLICIT, FEATURES_STEP, UNKNOWN_SENSOR}
 use Rattle.vcm_templates.specs.Carried.{carried_target, carried_term, item_name, item_target}
-use Rattle.vcm_templates.specs.Expressions.{number, both, is_known}
+use Rattle.vcm_templates.specs.Expressions.{number, truth, both, is_known}
+use Rattle.vcm_templates.specs.declared.besides.Formula.{Formula}
+use Rattle.vcm_templates.specs.declared.besides.Formula.TheVariants.{Nothing, This, TooLarge}
+use Rattle.vcm_templates.specs.declared.besides.Beside.{Beside}
+use Rattle.vcm_templates.specs.declared.templates.TheConstants.{NEAR}
+use Rattle.vcm_templates.specs.Besides.{carries_bounds, beside_of, at_most, bound_value}
 use Rattle.vcm_events.specs.Joined.{pair}
 
 -- ---- single statements
@@ -59,6 +65,27 @@ raise line c n = set line c (pair Add (carried_term c) (number n))
 abbrev pub declare_item : ℕ → Item → ℕ → Guarded
 declare_item line k i = stands line (item_target k i).expansion (Declaration kinds.Int (item_name k ∷ []))
 
+-- ---- how far values may lie from the machine's
+
+-- whether how far values of this kind may lie is carried: of REALs, in a text that carries it
+abbrev pub is_carried : List Variable → Kind → Bool
+is_carried vs kinds.Real = carries_bounds vs
+is_carried vs k = false
+
+-- the variable that carries it for the variable at an index is declared, if it is carried
+unfoldable pub declares_bound : ℕ → Bool → ℕ → List Guarded
+declares_bound line true i = stands line (item_target items.Beside i).expansion (Declaration kinds.Real (item_name items.Beside ∷ [])) ∷ []
+declares_bound line false i = []
+
+-- a bound as an expression
+abbrev pub bound_in : Option Beside → Source
+bound_in (Some b) = bound_value b.bound
+bound_in None = bound_value Nothing
+
+-- the variable of this kind at an index lies so far from the machine's as this value
+unfoldable pub sets_bound : ℕ → List Variable → Kind → ℕ → Source → List Guarded
+sets_bound line vs k i e = if is_carried vs k then set_item line items.Beside i (bound_in (beside_of vs e)) ∷ [] else []
+
 -- ---- motions
 
 -- a motion isn't tried, and the probe doesn't stand where the machine's does
@@ -80,8 +107,31 @@ asks_piece line vs (Named name e) = asks_variable line (variable_of vs e name)
 asks_piece line vs p = []
 
 -- and all variables of an expression
+unfoldable pub asks_variables : ℕ → List Variable → Source → List Guarded
+asks_variables line vs e = flat_map (asks_piece line vs) (parts e)
+
+-- and a formula; of one that is too large it isn't known
+abbrev pub asks_formula : ℕ → Formula → List Guarded
+asks_formula line Nothing = []
+asks_formula line (This e) = asks line (both (Plain (carried_term carried.Asked)) e) ∷ []
+asks_formula line TooLarge = asks line (truth false) ∷ []
+
+-- and that a value lies this many thousandths from the machine's at most, with what is asked of it besides
+abbrev pub asks_near : ℕ → ℤ → Option Beside → List Guarded
+asks_near line n None = asks line (truth false) ∷ []
+asks_near line n (Some b) = asks_formula line (at_most n b.bound) ++ asks_formula line b.asked
+
+-- and that the value of an expression does, in a text that carries how far its values may lie
+unfoldable pub asks_within : ℕ → List Variable → ℤ → Source → List Guarded
+asks_within line vs n e = if carries_bounds vs then asks_near line n (beside_of vs e) else []
+
+-- and a value: all its variables, and that it lies this many thousandths from the machine's at most
+abbrev pub asks_value : ℕ → List Variable → ℤ → Source → List Guarded
+asks_value line vs n e = asks_variables line vs e ++ asks_within line vs n e
+
+-- and a length
 unfoldable pub asks_all : ℕ → List Variable → Source → List Guarded
-asks_all line vs e = flat_map (asks_piece line vs) (parts e)
+asks_all line vs e = asks_value line vs NEAR e
 
 -- where it is known
 abbrev pub where_known : ℕ → Guarded
@@ -132,7 +182,7 @@ lose_places line =
     set line carried.Frame (Plain (number (pos 0)))
     ∷ set line carried.Floor (Plain (carried_term carried.Latest))
     ∷ set line carried.Place (Plain (number (pos 0)))
-    ∷ set line carried.Sensor (Plain (number (pos 0)))
+    ∷ set line carried.Sensor (Plain (number UNKNOWN_SENSOR))
     ∷ []
 
 -- nothing is known any more

@@ -13,6 +13,9 @@ pub const IMPLICIT: u32 = 4_294_967_295;
 /// What is added where no value of a feature is known any more: more than there are frames.
 pub const FEATURES_STEP: i64 = 1_099_511_627_776;
 
+/// The number of a sensor that isn't known: no line has it.
+pub const UNKNOWN_SENSOR: i64 = 4_294_967_296;
+
 /// A variable that carries what is known of the machine. Where nothing else is said it is a whole number: that of the epoch in which it came to be known.
 #[derive(Clone, Copy)]
 pub enum Carried {
@@ -64,7 +67,7 @@ pub enum Carried {
     Wanted,
     /// 1 where the measurement is of a single point that was tried.
     Single,
-    /// Which sensor is selected, by a line that selects it; 0 none that is known.
+    /// Which sensor is selected, by a line that selects it; 0 none so far.
     Sensor,
     /// The number of the frame in which the last point was touched.
     Touched,
@@ -74,6 +77,10 @@ pub enum Carried {
     TargetFrame,
     /// The number of the frame of the probe's place.
     ProbeFrame,
+    /// Angles are in decimal degrees.
+    Angle,
+    /// Polar places are in the plane of X and Y.
+    Plane,
 }
 
 impl Carried {
@@ -111,6 +118,8 @@ impl Carried {
             Carried::HomeFrame => b"HOMEFRAME",
             Carried::TargetFrame => b"TARGETFRAME",
             Carried::ProbeFrame => b"PROBEFRAME",
+            Carried::Angle => b"ANGLE",
+            Carried::Plane => b"PLANE",
         }
     }
 
@@ -150,6 +159,12 @@ pub enum Item {
     Measured,
     /// The number of the frame in which it was declared.
     Nominal,
+    /// The components of the direction in which it was declared, in thousandths.
+    AlongX,
+    AlongY,
+    AlongZ,
+    /// How far a variable's value may lie from the machine's.
+    Beside,
 }
 
 impl Item {
@@ -162,6 +177,10 @@ impl Item {
             Item::Saved => b"SAVED",
             Item::Measured => b"MEASURED",
             Item::Nominal => b"NOMINAL",
+            Item::AlongX => b"ALONGX",
+            Item::AlongY => b"ALONGY",
+            Item::AlongZ => b"ALONGZ",
+            Item::Beside => b"BESIDE",
         }
     }
 

@@ -1,17 +1,16 @@
 //! Expressions over what is carried.
 
 ghost use Rattle.std.specs.Prelude.{◌≡◌, true, false, IfOk};
-ghost use Rattle.std.specs.List.{list_any};
 ghost use Rattle.vcm_expr.specs.Source.{Pair, Plain};
 ghost use Rattle.vcm_spec.specs.declared.expression.BinaryOp.TheVariants.{Compare};
 ghost use Rattle.vcm_spec.specs.declared.expression.Relation.TheVariants.{Equal};
-ghost use Rattle.vcm_templates.specs.Expressions.{number, truth, both, is_current, are_current, knows_frame, is_known, in_frame, is_kept_here, is_quotient, has_form};
+ghost use Rattle.vcm_templates.specs.Expressions.{number, truth, both, is_current, are_current, knows_frame, is_known, in_frame, is_kept_here, has_form};
 
 use crate::carried::{Carried, Item};
 use crate::lengths::Kept;
 use std::alloc::Global;
 use vcm_events::{join, pair};
-use vcm_expr::{BinaryOp, Expr, Names, Piece, Relation, Term, Want, type_expr};
+use vcm_expr::{BinaryOp, Expr, Names, Relation, Term, Want, type_expr};
 use vcm_lines::FaultCode;
 use vcm_num::{Literal, NoMemory};
 
@@ -103,27 +102,10 @@ pub fn is_kept_here(alloc: Global, kept: Kept) -> Result<Expr, NoMemory>
     pair(alloc, op, kept.frame().term(), Carried::Frame.term())
 }
 
-// Whether a part is a quotient.
-fn is_quotient(piece: &Piece) -> bool
-    ensures { result ≡ is_quotient piece.now }
-{
-    matches!(piece, Piece::Between(BinaryOp::Div))
-}
-
-// Whether one of the parts is.
-fn has_quotient(pieces: &[Piece]) -> bool
-    ensures { result ≡ list_any is_quotient pieces.now }
-{
-    pieces.iter().any(|piece| is_quotient(piece))
-}
-
-/// Whether an expression has a value at this place that is the machine's.
+/// Whether an expression has a value at this place.
 pub fn has_form(alloc: Global, names: &Names, want: Want, value: &Expr) -> Result<bool, NoMemory>
     ensures { IfOk result (λ b. b ≡ has_form names.now want value.now) }
 {
-    if has_quotient(value.pieces()) {
-        return Ok(false);
-    }
     match type_expr(alloc, value, 1, names, want) {
         Ok(typed) => {
             drop(typed);

@@ -8,10 +8,11 @@ ghost use Rattle.vcm_expr.specs.Source.{Plain};
 ghost use Rattle.vcm_templates.specs.Carried.{carried_target, item_target};
 ghost use Rattle.vcm_events.specs.Joined.{pair};
 ghost use Rattle.vcm_templates.specs.Expressions.{number};
-ghost use Rattle.vcm_templates.specs.Templates.{stands, remarks, set, set_item, lose, know, raise, declare_item, untried, asks, asks_variable, asks_piece, asks_all, where_known, elsewhere, ends, goes, gone, untried_point, touched, lose_epoch, lose_places, lose_all, to_the_end, lose_frame, new_frame, saves_frame, frame_gone};
+ghost use Rattle.vcm_templates.specs.Templates.{stands, remarks, set, set_item, lose, know, raise, declare_item, untried, asks, asks_variable, asks_piece, asks_variables, asks_formula, asks_near, asks_within, asks_value, asks_all, is_carried, declares_bound, bound_in, sets_bound, where_known, elsewhere, ends, goes, gone, untried_point, touched, lose_epoch, lose_places, lose_all, to_the_end, lose_frame, new_frame, saves_frame, frame_gone};
 
-use crate::carried::{Carried, FEATURES_STEP, IMPLICIT, Item};
-use crate::expressions::{both, is_known, number};
+use crate::besides::{Beside, Formula, at_most, beside_of, bound_value, carries_bounds};
+use crate::carried::{Carried, FEATURES_STEP, IMPLICIT, Item, UNKNOWN_SENSOR};
+use crate::expressions::{both, is_known, number, truth};
 use crate::guarded::Guarded;
 use std::alloc::Global;
 use vcm_events::pair;
@@ -21,6 +22,12 @@ use vcm_items::Name;
 use vcm_macro::Placed;
 use vcm_num::{Items, Kind, NoMemory};
 use vcm_remarks::{Cause, Remark};
+
+/// How many thousandths a length may lie from the machine's.
+pub const NEAR: i64 = 5;
+
+/// How many thousandths a value that is kept may lie from the machine's.
+pub const FAR: i64 = 1_000_000;
 
 /// A statement of a line, in an expansion.
 pub fn stand(out: &mut Vec<Guarded>, line: u32, expansion: u32, form: Form) -> Result<(), NoMemory>
@@ -213,7 +220,107 @@ fn ask_pieces(
     Ok(())
 }
 
-/// And all variables of an expression.
+// And all variables of an expression.
+#[tactic(auto, unfolding(crate::specs::Templates::asks_variables))]
+fn ask_variables(
+    alloc: Global,
+    out: &mut Vec<Guarded>,
+    line: u32,
+    names: &Names,
+    value: &Expr,
+) -> Result<(), NoMemory>
+    ensures { OnOk result (out.new.items ≡ out.old.items ++ asks_variables line names.now value.now) }
+{
+    ask_pieces(alloc, out, line, names, value.pieces())
+}
+
+// And a formula.
+fn ask_formula(
+    alloc: Global,
+    out: &mut Vec<Guarded>,
+    line: u32,
+    formula: &Formula,
+) -> Result<(), NoMemory>
+    ensures { OnOk result (out.new.items ≡ out.old.items ++ asks_formula line formula.now) }
+{
+    match formula {
+        Formula::Nothing => Ok(()),
+        Formula::This(value) => {
+            let asked = Expr::leaf(Carried::Asked.term());
+            ask(out, line, both(alloc, &asked, value)?)
+        }
+        Formula::TooLarge => ask(out, line, truth(false)),
+    }
+}
+
+// And two formulas.
+fn ask_formulas(
+    alloc: Global,
+    out: &mut Vec<Guarded>,
+    line: u32,
+    first: &Formula,
+    second: &Formula,
+) -> Result<(), NoMemory>
+    ensures { OnOk result (out.new.items ≡ out.old.items ++ (asks_formula line first.now ++ asks_formula line second.now)) }
+{
+    ask_formula(alloc, out, line, first)?;
+    ask_formula(alloc, out, line, second)
+}
+
+// And that a value lies this many thousandths from the machine's at most.
+fn ask_near(
+    alloc: Global,
+    out: &mut Vec<Guarded>,
+    line: u32,
+    number: i64,
+    value: Option<Beside>,
+) -> Result<(), NoMemory>
+    ensures { OnOk result (out.new.items ≡ out.old.items ++ asks_near line number value) }
+{
+    match value {
+        Some(value) => {
+            let near = at_most(alloc, number, &value.bound)?;
+            ask_formulas(alloc, out, line, &near, &value.asked)
+        }
+        None => ask(out, line, truth(false)),
+    }
+}
+
+// And that the value of an expression does, where this is carried.
+#[tactic(auto, unfolding(crate::specs::Templates::asks_within))]
+fn ask_within(
+    alloc: Global,
+    out: &mut Vec<Guarded>,
+    line: u32,
+    names: &Names,
+    number: i64,
+    value: &Expr,
+) -> Result<(), NoMemory>
+    ensures { OnOk result (out.new.items ≡ out.old.items ++ asks_within line names.now number value.now) }
+{
+    if !carries_bounds(names) {
+        return Ok(());
+    }
+    let beside = beside_of(alloc, names, value)?;
+    ask_near(alloc, out, line, number, beside)
+}
+
+/// And a value: all its variables, and that it lies this many thousandths from the machine's at most.
+pub fn ask_value(
+    alloc: Global,
+    out: &mut Vec<Guarded>,
+    line: u32,
+    names: &Names,
+    number: i64,
+    value: &Expr,
+) -> Result<(), NoMemory>
+    ensures { OnOk result (out.new.items ≡ out.old.items ++ asks_value line names.now number value.now) }
+{
+    ask_variables(alloc, out, line, names, value)?;
+    ask_within(alloc, out, line, names, number, value)
+}
+
+/// And a length.
 #[tactic(auto, unfolding(crate::specs::Templates::asks_all))]
 pub fn ask_all(
     alloc: Global,
@@ -224,7 +331,72 @@ pub fn ask_all(
 ) -> Result<(), NoMemory>
     ensures { OnOk result (out.new.items ≡ out.old.items ++ asks_all line names.now value.now) }
 {
-    ask_pieces(alloc, out, line, names, value.pieces())
+    ask_value(alloc, out, line, names, NEAR, value)
+}
+
+/// Whether how far values of this kind may lie from the machine's is carried.
+pub fn is_carried(names: &Names, kind: Kind) -> bool
+    ensures { result ≡ is_carried names.now kind }
+{
+    match kind {
+        Kind::Real => carries_bounds(names),
+        Kind::Int | Kind::Bool => false,
+    }
+}
+
+/// The variable that carries how far the variable at an index may lie from the machine's is declared, if it is carried.
+#[tactic(auto, unfolding(crate::specs::Templates::declares_bound))]
+pub fn declare_bound(
+    alloc: Global,
+    out: &mut Vec<Guarded>,
+    line: u32,
+    carried: bool,
+    index: u16,
+) -> Result<(), NoMemory>
+    ensures { OnOk result (out.new.items ≡ out.old.items ++ declares_bound line carried index) }
+{
+    if !carried {
+        return Ok(());
+    }
+    let mut declared = Items::new(alloc);
+    declared.push(Item::Beside.variable())?;
+    let expansion = Item::Beside.target(index).expansion;
+    stand(
+        out,
+        line,
+        expansion,
+        Form::Declaration(Kind::Real, declared),
+    )
+}
+
+// A bound as an expression.
+fn bound_in(beside: Option<Beside>) -> Expr
+    ensures { result ≡ bound_in beside }
+{
+    match beside {
+        Some(beside) => bound_value(beside.bound),
+        None => bound_value(Formula::Nothing),
+    }
+}
+
+/// The variable of this kind at an index lies so far from the machine's as this value, where this is carried.
+#[tactic(auto, unfolding(crate::specs::Templates::sets_bound))]
+pub fn set_bound(
+    alloc: Global,
+    out: &mut Vec<Guarded>,
+    line: u32,
+    names: &Names,
+    kind: Kind,
+    index: u16,
+    value: &Expr,
+) -> Result<(), NoMemory>
+    ensures { OnOk result (out.new.items ≡ out.old.items ++ sets_bound line names.now kind index value.now) }
+{
+    if !is_carried(names, kind) {
+        return Ok(());
+    }
+    let bound = bound_in(beside_of(alloc, names, value)?);
+    set_item(out, line, Item::Beside, index, bound)
 }
 
 /// Where it is known.
@@ -320,7 +492,7 @@ fn lose_places(out: &mut Vec<Guarded>, line: u32) -> Result<(), NoMemory>
         Expr::leaf(Carried::Latest.term()),
     )?;
     set_number(out, line, Carried::Place, 0)?;
-    set_number(out, line, Carried::Sensor, 0)
+    set_number(out, line, Carried::Sensor, UNKNOWN_SENSOR)
 }
 
 /// Nothing is known any more.

@@ -5,6 +5,8 @@ pub mod Spanning
 pub mod Tables
 pub mod Short
 pub mod Kept
+pub mod Stood
+pub mod Joined
 pub mod Ended
 pub mod Same
 pub mod Asked

@@ -3,7 +3,7 @@ use Rattle.std.proofs.Common.{◌≡◌, ℕ, Bool, true, false, ◌&&◌, nat_e
 use Rattle.vcm_remarks.specs.declared.remark.Cause.{Cause}
 use Rattle.vcm_remarks.specs.declared.remark.Cause.TheVariants.{Table, Mode, Scanning, Unit as UnitLost, Frame, Setting, Value, All}
 use Rattle.vcm_untried.specs.declared.about.About.{About}
-use Rattle.vcm_untried.specs.declared.about.About.TheVariants.{NotTried, Approached, BeginsElsewhere, NotReported}
+use Rattle.vcm_untried.specs.declared.about.About.TheVariants.{NotTried, Approached, BeginsElsewhere, NotReported, AnotherTip}
 use Rattle.vcm_untried.specs.About.{place_of, rank, since_of, same}
 
 -- the causes in their order
@@ -37,15 +37,24 @@ by_parts (NotTried c m) BeginsElsewhere r s = absurd (no_place c 9 refl r)
 by_parts BeginsElsewhere (NotTried d n) r s = absurd (no_place d 9 refl (sym r))
 by_parts (NotTried c m) NotReported r s = absurd (no_place c 10 refl r)
 by_parts NotReported (NotTried d n) r s = absurd (no_place d 10 refl (sym r))
+by_parts (NotTried c m) AnotherTip r s = absurd (no_place c 11 refl r)
+by_parts AnotherTip (NotTried d n) r s = absurd (no_place d 11 refl (sym r))
 by_parts Approached Approached r s = refl
 by_parts Approached BeginsElsewhere r s = absurd (apart 8 9 r refl)
 by_parts Approached NotReported r s = absurd (apart 8 10 r refl)
+by_parts Approached AnotherTip r s = absurd (apart 8 11 r refl)
 by_parts BeginsElsewhere Approached r s = absurd (apart 9 8 r refl)
 by_parts BeginsElsewhere BeginsElsewhere r s = refl
 by_parts BeginsElsewhere NotReported r s = absurd (apart 9 10 r refl)
+by_parts BeginsElsewhere AnotherTip r s = absurd (apart 9 11 r refl)
 by_parts NotReported Approached r s = absurd (apart 10 8 r refl)
 by_parts NotReported BeginsElsewhere r s = absurd (apart 10 9 r refl)
 by_parts NotReported NotReported r s = refl
+by_parts NotReported AnotherTip r s = absurd (apart 10 11 r refl)
+by_parts AnotherTip Approached r s = absurd (apart 11 8 r refl)
+by_parts AnotherTip BeginsElsewhere r s = absurd (apart 11 9 r refl)
+by_parts AnotherTip NotReported r s = absurd (apart 11 10 r refl)
+by_parts AnotherTip AnotherTip r s = refl
 
 both_true : (x y : Bool) → (x && y) ≡ true → (x ≡ true) × (y ≡ true)
 both_true true y e = (refl, e)

@@ -3,7 +3,7 @@ use Rattle.std.specs.Prelude.{ℕ, Bool, nat_eq, ◌&&◌}
 use Rattle.vcm_remarks.specs.declared.remark.Cause.{Cause}
 use Rattle.vcm_remarks.specs.declared.remark.Cause.TheVariants.{Table, Mode, Scanning, Unit as UnitLost, Frame, Setting, Value, All}
 use Rattle.vcm_untried.specs.declared.about.About.{About}
-use Rattle.vcm_untried.specs.declared.about.About.TheVariants.{NotTried, Approached, BeginsElsewhere, NotReported}
+use Rattle.vcm_untried.specs.declared.about.About.TheVariants.{NotTried, Approached, BeginsElsewhere, NotReported, AnotherTip}
 
 -- the place of a cause
 abbrev pub place_of : Cause → ℕ
@@ -22,6 +22,7 @@ rank (NotTried cause since) = place_of cause
 rank Approached = 8
 rank BeginsElsewhere = 9
 rank NotReported = 10
+rank AnotherTip = 11
 
 -- since which line it is so
 abbrev pub since_of : About → ℕ
@@ -29,6 +30,7 @@ since_of (NotTried cause since) = since
 since_of Approached = 0
 since_of BeginsElsewhere = 0
 since_of NotReported = 0
+since_of AnotherTip = 0
 
 -- the same is reported
 abbrev pub same : About → About → Bool

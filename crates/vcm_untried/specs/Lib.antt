@@ -6,6 +6,8 @@ pub mod Telling
 pub mod Counted
 pub mod Groups
 pub mod Spans
+pub mod Frames
+pub mod Elsewhere
 pub mod Lines
 pub mod Laws
 pub mod Samples

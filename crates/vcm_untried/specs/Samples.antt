@@ -1,5 +1,5 @@
 -- Worked examples: steps of a program with remarks, and the lines that report them.
-use Rattle.std.specs.Prelude.{◌≡◌, refl, ℕ, ℤ, pos, ◌+◌, List, [], ◌∷◌, Some, codes, flat_map}
+use Rattle.std.specs.Prelude.{◌≡◌, refl, ℕ, ℤ, pos, ◌+◌, Bool, true, false, List, [], ◌∷◌, Some, codes, flat_map}
 use Rattle.std.specs.Fmt.{digits}
 use Rattle.vcm_spec.specs.declared.simple.Simple.TheVariants.{GoHome}
 use Rattle.vcm_spec.specs.Setup.{setup_of}
@@ -8,10 +8,11 @@ use Rattle.vcm_spec.specs.Samples.Parts.{one_block}
 use Rattle.vcm_code.specs.declared.op.Op.TheVariants.{Plain}
 use Rattle.vcm_remarks.specs.declared.remark.Cause.TheVariants.{Mode, Frame}
 use Rattle.vcm_remarks.specs.declared.remark.Remark.{Remark}
-use Rattle.vcm_remarks.specs.declared.remark.Remark.TheVariants.{NotTried, BeginsElsewhere, Loses, Ends}
+use Rattle.vcm_remarks.specs.declared.remark.Remark.TheVariants.{NotTried, BeginsElsewhere, AnotherTip, Loses, Ends}
 use Rattle.vcm_remarks.specs.declared.remark.NumberedRemark.{NumberedRemark}
 use Rattle.vcm_steps.specs.Passages.{Passage, passage}
 use Rattle.vcm_untried.specs.declared.about.About.TheVariants as about
+use Rattle.vcm_untried.specs.declared.frames.NamedFrame.{NamedFrame}
 use Rattle.vcm_untried.specs.Times.{remark_times}
 use Rattle.vcm_untried.specs.Rows.{row}
 use Rattle.vcm_untried.specs.Telling.{Telling, told_of}
@@ -65,7 +66,7 @@ pub is_told : told_of remarks steps ≡ told
 is_told = refl
 
 -- its lines
-pub is_written : untried_text told ≡ flat_map (λ t. t) (
+pub is_written : untried_text [] told ≡ flat_map (λ t. t) (
     codes "not tried 5: lines 24-26 30(2), the mode isn't programmed since line 11\n"
     ∷ codes "not tried 1: line 108, the frame isn't known since line 107\n"
     ∷ codes "begins elsewhere 1: line 44\n"
@@ -73,3 +74,43 @@ pub is_written : untried_text told ≡ flat_map (λ t. t) (
     ∷ [])
 unfolding digits
 is_written = refl
+
+-- ---- names of frames, and other sensors
+
+-- a statement that makes or recalls this frame
+abbrev named : ℕ → List ℕ → Bool → NamedFrame
+named line name takes = record { line = line; name = name; takes_given = takes }
+
+-- the frame A is made of something that isn't known, B by a shift
+abbrev frames : List NamedFrame
+frames = named 31 (codes "A") true ∷ named 40 (codes "B") false ∷ []
+
+abbrev lost_since : ℕ → List ℕ
+lost_since since = untried_text frames (told_of (remark 0 since (Loses Frame) ∷ remark 1 70 NotTried ∷ []) (step 0 no_frame ∷ step 1 no_frame ∷ []))
+
+pub frame_is_named : lost_since 31 ≡ codes "not tried 1: line 70, the frame A isn't known since line 31; give --frame A=X,Y,Z\n"
+unfolding digits
+frame_is_named = refl
+
+pub frame_of_the_text_is_named : lost_since 40 ≡ codes "not tried 1: line 70, the frame B isn't known since line 40\n"
+unfolding digits
+frame_of_the_text_is_named = refl
+
+pub other_lines_name_none : lost_since 50 ≡ codes "not tried 1: line 70, the frame isn't known since line 50\n"
+unfolding digits
+other_lines_name_none = refl
+
+-- one other sensor, and several behind what begins elsewhere
+abbrev tips : List NumberedRemark
+tips = remark 0 14 AnotherTip ∷ remark 1 30 AnotherTip ∷ remark 2 31 BeginsElsewhere ∷ []
+
+pub one_tip_is_told : untried_text [] (told_of tips (step 0 no_mode ∷ [])) ≡ codes "another tip since line 14\n"
+unfolding digits
+one_tip_is_told = refl
+
+pub tips_are_told : untried_text [] (told_of tips (step 0 no_mode ∷ step 1 no_mode ∷ step 1 no_mode ∷ step 2 no_mode ∷ [])) ≡ flat_map (λ t. t) (
+    codes "begins elsewhere 1: line 31\n"
+    ∷ codes "another tip since lines 14 30(2)\n"
+    ∷ [])
+unfolding digits
+tips_are_told = refl

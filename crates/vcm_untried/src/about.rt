@@ -16,6 +16,8 @@ pub enum About {
     BeginsElsewhere,
     /// Its output line wasn't written.
     NotReported,
+    /// It selects another sensor: what comes after it is tried with the tip of the part all the same.
+    AnotherTip,
 }
 
 /// The place of a cause.
@@ -43,6 +45,7 @@ fn rank(about: About) -> usize
         About::Approached => 8,
         About::BeginsElsewhere => 9,
         About::NotReported => 10,
+        About::AnotherTip => 11,
     }
 }
 
@@ -52,7 +55,7 @@ pub(crate) fn since_of(about: About) -> u32
 {
     match about {
         About::NotTried(_, since) => since,
-        About::Approached | About::BeginsElsewhere | About::NotReported => 0,
+        About::Approached | About::BeginsElsewhere | About::NotReported | About::AnotherTip => 0,
     }
 }
 

@@ -43,8 +43,8 @@ const COMPENSATION: usize = 14;
 
 const WANTED: usize = 22;
 
-// Whether a variable is 0.
-fn is_nought(variables: &[i64], variable: usize) -> bool
+/// Whether a variable is 0.
+pub(crate) fn is_nought(variables: &[i64], variable: usize) -> bool
     ensures { result ≡ is_nought variables.now variable }
 {
     match variables.get(variable) {

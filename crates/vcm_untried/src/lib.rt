@@ -5,6 +5,8 @@
 mod about;
 mod causes;
 mod counting;
+mod elsewhere;
+mod frames;
 mod groups;
 pub mod laws;
 mod lines;
@@ -14,8 +16,10 @@ mod telling;
 
 pub use about::About;
 pub use counting::{Counts, count_remarks};
+pub use elsewhere::{Seen, Standing, standing_of};
+pub use frames::NamedFrame;
 pub use groups::Group;
-pub use lines::{untried_text, was_all_tried};
+pub use lines::{untried_text, was_all_tried, way_text};
 pub use rows::Row;
 pub use spans::Span;
 pub use telling::Told;

@@ -1,11 +1,14 @@
 //! What wasn't tried, in lines.
 
 ghost use Rattle.std.specs.Prelude.{◌≡◌, ◌++◌, decimal, IfOk, OnOk};
+ghost use Rattle.std.specs.Option.{option_copied};
 ghost use Rattle.vcm_untried.specs.Telling.{shown};
-ghost use Rattle.vcm_untried.specs.Lines.{head_text, lines_word, rest_text, span_text, spans_text, cause_text, given_text, since_text, about_text, group_text, groups_text, end_text, untried_text, all_tried};
+ghost use Rattle.vcm_untried.specs.Lines.{head_text, count_text, lines_word, rest_text, span_text, spans_text, option_text, give_text, named_text, frame_text, lost_text, cause_text, given_text, since_text, about_text, group_text, groups_text, end_text, untried_text, all_tried, begun_text, current_text, way_text};
 
 use crate::about::About;
 use crate::counting::Counts;
+use crate::elsewhere::Standing;
+use crate::frames::{NamedFrame, frame_at};
 use crate::groups::{Group, groups_of};
 use crate::rows::Row;
 use crate::spans::{Span, spans_of};
@@ -47,6 +50,20 @@ fn head_text(about: About) -> &'static [u8]
         About::Approached => b"approached, not touched ",
         About::BeginsElsewhere => b"begins elsewhere ",
         About::NotReported => b"not reported ",
+        About::AnotherTip => b"another tip since",
+    }
+}
+
+// Appends how often in all, which isn't told of other sensors.
+fn put_count(out: &mut Vec<u8>, about: About, total: u64) -> Result<(), NoMemory>
+    ensures { OnOk result (out.new.items ≡ out.old.items ++ count_text about total) }
+{
+    match about {
+        About::AnotherTip => Ok(()),
+        _ => {
+            put_number(out, total)?;
+            put(out, b":")
+        }
     }
 }
 
@@ -55,8 +72,8 @@ fn lines_word(spans: &[Span]) -> &'static [u8]
     ensures { result.now ≡ lines_word spans.now }
 {
     match spans {
-        [only] if only.first == only.last => b": line",
-        _ => b": lines",
+        [only] if only.first == only.last => b" line",
+        _ => b" lines",
     }
 }
 
@@ -124,36 +141,103 @@ fn given_text(cause: Cause) -> &'static [u8]
     }
 }
 
+// Appends how a frame may be given.
+fn put_option(out: &mut Vec<u8>, frame: &NamedFrame) -> Result<(), NoMemory>
+    ensures { OnOk result (out.new.items ≡ out.old.items ++ option_text frame.now) }
+{
+    put(out, b"; give --frame ")?;
+    put(out, frame.name.as_slice())?;
+    put(out, b"=X,Y,Z")
+}
+
+// Appends the same, where it may.
+fn put_give(out: &mut Vec<u8>, frame: &NamedFrame) -> Result<(), NoMemory>
+    ensures { OnOk result (out.new.items ≡ out.old.items ++ give_text frame.now) }
+{
+    if frame.takes_given {
+        put_option(out, frame)
+    } else {
+        Ok(())
+    }
+}
+
+// Appends that a frame of this name isn't known since a line.
+fn put_named(out: &mut Vec<u8>, frame: &NamedFrame, since: u32) -> Result<(), NoMemory>
+    ensures { OnOk result (out.new.items ≡ out.old.items ++ named_text frame.now since) }
+{
+    put(out, b", the frame ")?;
+    put(out, frame.name.as_slice())?;
+    put_before(out, b" isn't known since line ", u64::from(since))?;
+    put_give(out, frame)
+}
+
+// Appends that the frame isn't known since a line, with its name where the statement of that line has one.
+fn put_frame(out: &mut Vec<u8>, frame: Option<&NamedFrame>, since: u32) -> Result<(), NoMemory>
+    ensures { OnOk result (out.new.items ≡ out.old.items ++ frame_text (option_copied frame.entry) since) }
+{
+    match frame {
+        Some(frame) => put_named(out, frame, since),
+        None => put_before(out, since_text(Cause::Frame), u64::from(since)),
+    }
+}
+
+// Appends why, where it came about at a line.
+fn put_lost(
+    out: &mut Vec<u8>,
+    frames: &[NamedFrame],
+    cause: Cause,
+    since: u32,
+) -> Result<(), NoMemory>
+    ensures { OnOk result (out.new.items ≡ out.old.items ++ lost_text frames.now cause since) }
+{
+    match cause {
+        Cause::Frame => put_frame(out, frame_at(frames, since), since),
+        _ => put_before(out, since_text(cause), u64::from(since)),
+    }
+}
+
 // Appends why, and since which line.
-fn put_cause(out: &mut Vec<u8>, cause: Cause, since: u32) -> Result<(), NoMemory>
-    ensures { OnOk result (out.new.items ≡ out.old.items ++ cause_text cause since) }
+fn put_cause(
+    out: &mut Vec<u8>,
+    frames: &[NamedFrame],
+    cause: Cause,
+    since: u32,
+) -> Result<(), NoMemory>
+    ensures { OnOk result (out.new.items ≡ out.old.items ++ cause_text frames.now cause since) }
 {
     if since == 0 {
         put(out, given_text(cause))
     } else {
-        put_before(out, since_text(cause), u64::from(since))
+        put_lost(out, frames, cause, since)
     }
 }
 
 // Appends why a line isn't tried, if it isn't.
-fn put_about(out: &mut Vec<u8>, about: About) -> Result<(), NoMemory>
-    ensures { OnOk result (out.new.items ≡ out.old.items ++ about_text about) }
+fn put_about(out: &mut Vec<u8>, frames: &[NamedFrame], about: About) -> Result<(), NoMemory>
+    ensures { OnOk result (out.new.items ≡ out.old.items ++ about_text frames.now about) }
 {
     match about {
-        About::NotTried(cause, since) => put_cause(out, cause, since),
-        About::Approached | About::BeginsElsewhere | About::NotReported => Ok(()),
+        About::NotTried(cause, since) => put_cause(out, frames, cause, since),
+        _ => Ok(()),
     }
 }
 
 // Appends the line of a group.
-fn put_group(alloc: Global, out: &mut Vec<u8>, rows: &[Row], group: &Group) -> Result<(), NoMemory>
-    ensures { OnOk result (out.new.items ≡ out.old.items ++ group_text rows.now group.now) }
+fn put_group(
+    alloc: Global,
+    out: &mut Vec<u8>,
+    frames: &[NamedFrame],
+    rows: &[Row],
+    group: &Group,
+) -> Result<(), NoMemory>
+    ensures { OnOk result (out.new.items ≡ out.old.items ++ group_text frames.now rows.now group.now) }
 {
     let spans = spans_of(alloc, rows, group.about)?;
-    put_before(out, head_text(group.about), group.total)?;
+    put(out, head_text(group.about))?;
+    put_count(out, group.about, group.total)?;
     put(out, lines_word(spans.as_slice()))?;
     put_spans(out, spans.as_slice())?;
-    put_about(out, group.about)?;
+    put_about(out, frames, group.about)?;
     put(out, b"\n")
 }
 
@@ -161,13 +245,14 @@ fn put_group(alloc: Global, out: &mut Vec<u8>, rows: &[Row], group: &Group) -> R
 fn put_groups(
     alloc: Global,
     out: &mut Vec<u8>,
+    frames: &[NamedFrame],
     rows: &[Row],
     groups: &[Group],
 ) -> Result<(), NoMemory>
-    ensures { OnOk result (out.new.items ≡ out.old.items ++ groups_text rows.now groups.now) }
+    ensures { OnOk result (out.new.items ≡ out.old.items ++ groups_text frames.now rows.now groups.now) }
 {
     for group in groups {
-        put_group(alloc, out, rows, group)?;
+        put_group(alloc, out, frames, rows, group)?;
     }
     Ok(())
 }
@@ -186,23 +271,78 @@ fn put_end(out: &mut Vec<u8>, end: Option<u32>) -> Result<(), NoMemory>
 }
 
 /// What wasn't tried in a run, in lines: one for each cause and each line since which it is so, that with the most motions first; one for what begins elsewhere;
-/// one for the line from which on nothing is tried. Where all was tried there is none.
+/// one for other sensors; one for the line from which on nothing is tried. Where all was tried there is none. These are the frames that statements of the text make
+/// or recall by their names: where one of them lost the frame, it is told by its name.
 ///
 /// Errors: want of memory.
-pub fn untried_text(alloc: Global, counts: &Counts) -> Result<Vec<u8>, NoMemory>
-    ensures { IfOk result (λ text. text.items ≡ untried_text (shown counts.now.told)) }
+pub fn untried_text(
+    alloc: Global,
+    counts: &Counts,
+    frames: &[NamedFrame],
+) -> Result<Vec<u8>, NoMemory>
+    ensures { IfOk result (λ text. text.items ≡ untried_text frames.now (shown counts.now.told)) }
 {
     let rows = counts.told.rows.as_slice();
     let groups = groups_of(alloc, rows)?;
     let mut out = Vec::new(alloc);
-    put_groups(alloc, &mut out, rows, groups.as_slice())?;
+    put_groups(alloc, &mut out, frames, rows, groups.as_slice())?;
     put_end(&mut out, counts.told.end)?;
     Ok(out)
 }
 
-/// Whether no statement was carried out that isn't tried, begins elsewhere, or from which on nothing is tried.
+/// Whether no statement was carried out of which something is reported, or from which on nothing is tried.
 pub fn was_all_tried(counts: &Counts) -> bool
     ensures { result ≡ all_tried (shown counts.now.told) }
 {
     counts.told.rows.is_empty() && counts.told.end.is_none()
+}
+
+// Appends that a way begins elsewhere than on the machine, if it does.
+fn put_begun(out: &mut Vec<u8>, line: u32) -> Result<(), NoMemory>
+    ensures { OnOk result (out.new.items ≡ out.old.items ++ begun_text line) }
+{
+    if line == 0 {
+        Ok(())
+    } else {
+        put_before(
+            out,
+            b"begins elsewhere: the machine's way to here isn't known since line ",
+            u64::from(line),
+        )?;
+        put(out, b"\n")
+    }
+}
+
+// Appends the current frame, if it is named.
+fn put_current(out: &mut Vec<u8>, frame: Option<&NamedFrame>, line: u32) -> Result<(), NoMemory>
+    ensures { OnOk result (out.new.items ≡ out.old.items ++ current_text (option_copied frame.entry) line) }
+{
+    match frame {
+        Some(frame) => {
+            put(out, b"frame ")?;
+            put(out, frame.name.as_slice())?;
+            put_before(out, b" since line ", u64::from(line))?;
+            put(out, b"\n")
+        }
+        None => Ok(()),
+    }
+}
+
+/// What is told of the way on which a run stops: whether it begins elsewhere than on the machine, and the current frame, where statements of the text make or recall
+/// these frames. Of a run that stops on no way there is none.
+///
+/// Errors: want of memory.
+pub fn way_text(
+    alloc: Global,
+    standing: &Standing,
+    frames: &[NamedFrame],
+) -> Result<Vec<u8>, NoMemory>
+    ensures { IfOk result (λ text. text.items ≡ way_text frames.now standing.now) }
+{
+    let mut out = Vec::new(alloc);
+    if standing.is_way {
+        put_begun(&mut out, standing.way)?;
+        put_current(&mut out, frame_at(frames, standing.frame), standing.frame)?;
+    }
+    Ok(out)
 }

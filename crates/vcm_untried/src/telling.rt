@@ -15,7 +15,7 @@ use vcm_remarks::{Cause, NumberedRemark, Remark};
 pub struct Told {
     /// The line at which each cause came about last.
     pub lost: Losses,
-    /// What wasn't tried, and what begins elsewhere, by the order of the lines.
+    /// What is reported of each line, by the order of the lines.
     pub rows: Vec<Row>,
     /// The line from which on nothing is tried, if the run came to it.
     pub end: Option<u32>,
@@ -50,6 +50,7 @@ pub(crate) fn tell(told: &mut Told, remark: &NumberedRemark, cause: Cause) -> Re
         Remark::Approached => add(&mut told.rows, About::Approached, line),
         Remark::BeginsElsewhere => add(&mut told.rows, About::BeginsElsewhere, line),
         Remark::NotReported => add(&mut told.rows, About::NotReported, line),
+        Remark::AnotherTip => add(&mut told.rows, About::AnotherTip, line),
         Remark::Loses(cause) => {
             lose(&mut told.lost, cause, line);
             Ok(())

@@ -70,7 +70,7 @@ not tried from line 120 on
 fn tells(alloc: Global, statements: &str, remarks: &[NumberedRemark], told: &str) -> Option<bool> {
     beside_block(alloc, statements, |loaded, part| {
         let counts = count_remarks(alloc, part, loaded, 1000, remarks).ok()?;
-        let text = untried_text(alloc, &counts).ok()?;
+        let text = untried_text(alloc, &counts, &[]).ok()?;
         let is_right = text.as_slice() == told.as_bytes();
         Some(is_right && was_all_tried(&counts) == told.is_empty())
     })

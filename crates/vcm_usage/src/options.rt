@@ -67,6 +67,22 @@ pub enum Choice {
     Into,
     /// `--name NAME`.
     Name,
+    /// `--place X,Y,Z`.
+    Place,
+    /// `--strict`.
+    Strict,
+    /// `--by MM`.
+    By,
+    /// `--from-line N`.
+    FromLine,
+    /// `--part PART`, of `judge`.
+    Beside,
+    /// `--csv`.
+    Csv,
+    /// `--junit FILE`.
+    JUnit,
+    /// `--report FILE`.
+    Report,
 }
 
 /// What stands behind an option.
@@ -187,7 +203,7 @@ impl Choice {
                 "PROBE",
                 Files::Tables,
                 "the boxes of the probe",
-                "The boxes that are fixed to the tip, a TOML text; the page shows them, and where they meet a block",
+                "The boxes that are fixed to the tip, a TOML text; it is shown where they meet a block",
             ),
             Choice::Tip => valued(
                 "tip",
@@ -322,6 +338,57 @@ impl Choice {
                 "NAME",
                 "the name of the blocks",
                 "The name of each block, 1 to 32 printable characters; the name of the model's file if not given",
+            ),
+            Choice::Place => Spelled {
+                name: "place",
+                behind: Behind::Signed,
+                value: "X,Y,Z",
+                files: Files::None,
+                brief: "how far the part lies off its place",
+                help: "How far the workpiece lies off its place, in millimetres: all blocks are moved, but those with fixture = true",
+            },
+            Choice::Strict => flag(
+                "strict",
+                "refuse keys that nothing uses",
+                "Refuses a part file with keys that nothing uses",
+            ),
+            Choice::By => valued(
+                "by",
+                "MM",
+                "how far off its place",
+                "How far the workpiece is moved along each axis, either way, in millimetres",
+            ),
+            Choice::FromLine => valued(
+                "from-line",
+                "N",
+                "points are looked at from this line on",
+                "Deviations are looked at from where this source line is come to; each run must come to it as at the part's own place, or that is told",
+            ),
+            Choice::Beside => filed(
+                "part",
+                "PART",
+                Files::Tables,
+                "the workpiece of all programs",
+                "The workpiece of all programs; without it the one of a/b.dmi is a/b.toml",
+            ),
+            Choice::Csv => flag(
+                "csv",
+                "a line of CSV for each program",
+                "Prints a line of CSV for each program, and no counts",
+            ),
+            Choice::JUnit => filed(
+                "junit",
+                "FILE",
+                Files::Any,
+                "a report for continuous integration",
+                "Writes a report in the XML of JUnit to this file",
+            ),
+            Choice::Report => filed(
+                "report",
+                "FILE",
+                Files::Any,
+                "a page to be filed",
+                "Writes a page to be filed to this file, in HTML, with a row for each program and the digests of all files",
             ),
         }
     }

@@ -1,3 +1,5 @@
 pub mod Refusing
 pub mod Lettering
 pub mod Ended
+pub mod OneWhole
+pub mod LeftOut

@@ -1,3 +1,5 @@
 pub mod Whole
 pub mod inner
 pub mod Losses
+pub mod Frames
+pub mod Laws

@@ -33,6 +33,7 @@ use Rattle.vcm_given.specs.Unused.{unused}
 use Rattle.vcm_doubts.specs.Settled.{settled}
 use Rattle.vcm_whole.specs.declared.whole.Facts.{Facts}
 use Rattle.vcm_whole.specs.Losses.{lossy_lines, says_unit, says_mode}
+use Rattle.vcm_whole.specs.Frames.{named_frames}
 use Rattle.vcm_kept.specs.Guarding.{guarded}
 use Rattle.vcm_kept.specs.Put.{placed_in, remarks_in}
 use Rattle.vcm_num.specs.declared.limits.TheConstants.{MOST_STATEMENTS}
@@ -81,6 +82,7 @@ pub record IsWholeBuilt (c : Choices) (text bytes : List ℕ) (notices : List No
   pub rewritten_is : facts.is_rewritten ≡ is_rewritten text facts.unit
   pub losses_are : facts.losses ≡ lossy_lines (statements_of c text lines)
   pub unused_is : facts.unused ≡ unused c lines (said_all lines)
+  pub frames_are : facts.frames ≡ named_frames (statements_of c text lines)
   pub count_is : facts.statements ≡ length lines
   pub unit_said : facts.says_unit ≡ says_unit lines
   pub mode_said : facts.says_mode ≡ says_mode lines

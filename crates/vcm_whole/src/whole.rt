@@ -15,6 +15,8 @@ ghost use Rattle.vcm_tree.specs.Declaring.{PlacedDeclareVariables};
 ghost use Rattle.vcm_tree.specs.Ended.{is_ended};
 ghost use Rattle.vcm_tree.specs.Acceptance.{ReadsLines};
 ghost use Rattle.vcm_said.specs.All.{said_all, refused_from};
+ghost use Rattle.vcm_given.specs.Unused.{unused};
+ghost use Rattle.vcm_whole.specs.Losses.{says_unit as unit_said, says_mode as mode_said};
 ghost use Rattle.vcm_given.specs.declared.choices.Choices.{Choices as Given};
 ghost use Rattle.vcm_plain.specs.declared.unit.Unit.{Unit as LengthUnit};
 ghost use Rattle.vcm_plain.specs.declared.unit.Unit.TheVariants.{Millimetre};
@@ -27,6 +29,7 @@ ghost use Rattle.vcm_kept.specs.Guarding.{guarded};
 ghost use Rattle.vcm_kept.specs.Put.{placed_in, remarks_in};
 ghost use Rattle.vcm_whole.specs.Whole.{ReadsPlain, statements_of, is_rewritten as rewrites, stays, HasToBeCarried, Carries, Expands, IsPut, IsWholeBuilt, is_lettered, is_lettered_placed, is_program, line_beyond, IsWholeRefusal};
 
+use crate::frames::{FrameLine, named_frames};
 use crate::losses::{lossy_lines, says_mode, says_unit};
 use std::alloc::Global;
 use vcm_certain::is_certain;
@@ -56,6 +59,8 @@ pub struct Facts {
     pub losses: Items<u32>,
     /// The first name that is given and that the text never uses.
     pub unused: Option<Name>,
+    /// The lines of statements that make or recall a frame by its name, in order.
+    pub frames: Items<FrameLine>,
     /// How many statements it has.
     pub statements: usize,
     /// Whether the program is the text as it is written: that is read in one way and loses nothing.
@@ -75,6 +80,14 @@ pub struct Whole {
     /// What is said of its statements where they are carried out, in order.
     pub remarks: Vec<NumberedRemark>,
     pub facts: Facts,
+}
+
+// What is told of a text before its statements are put.
+#[derive(Drop)]
+struct Reading {
+    unit: Unit,
+    is_rewritten: bool,
+    unused: Option<Name>,
 }
 
 // A program as an image, with the remarks on its statements.
@@ -261,6 +274,111 @@ fn statements_of(
     settle(alloc, text, lines, chosen)
 }
 
+// What is told of a text whose statements say this of themselves.
+fn reading_of(
+    alloc: Global,
+    choices: &Choices,
+    unit: Unit,
+    is_rewritten: bool,
+    lines: &[Logical],
+    said: &[Statement],
+) -> Result<Reading, NoMemory>
+    ensures { IfOk result (λ r. (r.unit ≡ unit) × (r.is_rewritten ≡ is_rewritten) × (r.unused ≡ unused choices.now lines.now said.now)) }
+{
+    let unused = first_unused(alloc, choices, lines, said)?;
+    Ok(Reading {
+        unit,
+        is_rewritten,
+        unused,
+    })
+}
+
+// What is told of a text, with its program.
+fn whole_of(
+    program: Program,
+    reading: Reading,
+    losses: Items<u32>,
+    frames: Items<FrameLine>,
+    lines: &[Logical],
+) -> Whole
+    ensures program { (result.image ≡ program.image) × (result.notices ≡ program.notices) × (result.remarks ≡ program.remarks) }
+    ensures facts { result.facts ≡ record {
+      unit = reading.unit;
+      is_rewritten = reading.is_rewritten;
+      losses = losses;
+      unused = reading.unused;
+      frames = frames;
+      statements = length lines.now;
+      is_as_written = program.is_as_written;
+      says_unit = unit_said lines.now;
+      says_mode = mode_said lines.now;
+    } }
+{
+    let Program {
+        image,
+        notices,
+        remarks,
+        is_as_written,
+    } = program;
+    let Reading {
+        unit,
+        is_rewritten,
+        unused,
+    } = reading;
+    let facts = Facts {
+        unit,
+        is_rewritten,
+        losses,
+        unused,
+        frames,
+        statements: lines.len(),
+        is_as_written,
+        says_unit: says_unit(lines),
+        says_mode: says_mode(lines),
+    };
+    Whole {
+        image,
+        notices,
+        remarks,
+        facts,
+    }
+}
+
+// The image of what statements are put as, with what is told of their text.
+fn build_statements(
+    alloc: Global,
+    choices: &Choices,
+    text: &[u8],
+    lines: &[Logical],
+    reading: Reading,
+    statements: Vec<Statement>,
+) -> Result<Whole, Refusal>
+    requires shaped { refused_from false lines.now ≡ None }
+    requires statements { statements.items ≡ statements_of choices.now text.now lines.now }
+    ensures built { IfOk result (λ w. ReadsPlain text.now reading.unit lines.now → reading.is_rewritten ≡ rewrites text.now reading.unit
+        → reading.unused ≡ unused choices.now lines.now (said_all lines.now)
+        → IsWholeBuilt choices.now text.now w.image.items w.notices.items w.remarks.items w.facts) }
+    ensures refused { IfErr result (λ r. ReadsPlain text.now reading.unit lines.now → IsWholeRefusal choices.now text.now r) }
+{
+    let Ok(losses) = lossy_lines(alloc, &statements) else {
+        return Err(Refusal::NoMemory);
+    };
+    let Ok(frames) = named_frames(alloc, &statements) else {
+        return Err(Refusal::NoMemory);
+    };
+    let Ok(notices) = noted(alloc, &statements) else {
+        return Err(Refusal::NoMemory);
+    };
+    let expanded = match expand(alloc, statements) {
+        Ok(expanded) => expanded,
+        Err(fault) => return Err(Refusal::Source(fault)),
+    };
+    match build_program(alloc, choices, text, notices, expanded) {
+        Ok(program) => Ok(whole_of(program, reading, losses, frames, lines)),
+        Err(refusal) => Err(refusal),
+    }
+}
+
 // The image of what statements are put as, none of which is faulty where it shapes the program.
 fn build_said(
     alloc: Global,
@@ -278,47 +396,13 @@ fn build_said(
     let Ok(said) = say_all(alloc, lines) else {
         return Err(Refusal::NoMemory);
     };
-    let Ok(unused) = first_unused(alloc, choices, lines, &said) else {
+    let Ok(reading) = reading_of(alloc, choices, unit, is_rewritten, lines, &said) else {
         return Err(Refusal::NoMemory);
     };
     let Ok(statements) = statements_of(alloc, choices, text, lines, said) else {
         return Err(Refusal::NoMemory);
     };
-    let Ok(losses) = lossy_lines(alloc, &statements) else {
-        return Err(Refusal::NoMemory);
-    };
-    let Ok(notices) = noted(alloc, &statements) else {
-        return Err(Refusal::NoMemory);
-    };
-    let expanded = match expand(alloc, statements) {
-        Ok(expanded) => expanded,
-        Err(fault) => return Err(Refusal::Source(fault)),
-    };
-    match build_program(alloc, choices, text, notices, expanded) {
-        Ok(
-            Program {
-                image,
-                notices,
-                remarks,
-                is_as_written,
-            },
-        ) => Ok(Whole {
-            image,
-            notices,
-            remarks,
-            facts: Facts {
-                unit,
-                is_rewritten,
-                losses,
-                unused,
-                statements: lines.len(),
-                is_as_written,
-                says_unit: says_unit(lines),
-                says_mode: says_mode(lines),
-            },
-        }),
-        Err(refusal) => Err(refusal),
-    }
+    build_statements(alloc, choices, text, lines, reading, statements)
 }
 
 // The image of what statements are put as.

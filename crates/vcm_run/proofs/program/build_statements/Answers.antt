@@ -1,5 +1,5 @@
 use Rattle.std.proofs.Common.{rules}
 use Rattle.vcm_run.proofs.program.build_statements.Goals as goal
 
-pub returns-in-Ok-image_of-clause-built : goal.returns-in-Ok-image_of-clause-built
-returns-in-Ok-image_of-clause-built c = search rules
+pub returns-in-Ok-built_of-clause-built : goal.returns-in-Ok-built_of-clause-built
+returns-in-Ok-built_of-clause-built c = search rules

@@ -1,11 +1,16 @@
-use Rattle.vcm_whole.proofs.Refusing.{expansion_refused, put_refused}
+use Rattle.std.proofs.Common.{◌≡◌, sym, ◌∙◌, ap, subst}
+use Rattle.std.proofs.lemmas.Result.{IfOk-weaker}
+use Rattle.vcm_given.specs.Unused.{unused}
+use Rattle.vcm_whole.specs.Whole.{ReadsPlain, is_rewritten}
 use Rattle.vcm_whole.proofs.whole.build_said.Goals as goal
 
-pub returns-in-Err-clause-refused : goal.returns-in-Err-clause-refused
-returns-in-Err-clause-refused c = λ read. expansion_refused c.args.choices.now c.args.text.now c.args.unit c.args.lines.now c.in-Ok-statements_of.statements.items
-    c.in-Err.fault c.in-Ok-statements_of.ensures c.in-Err.ensures.fault read
-
-pub returns-in-Err-build_program-clause-refused : goal.returns-in-Err-build_program-clause-refused
-returns-in-Err-build_program-clause-refused c = λ read. put_refused c.args.choices.now c.args.text.now c.args.unit c.args.lines.now c.in-Ok-statements_of.statements.items
-    c.deref-3.result.now c.in-Ok-expand.expanded.items c.in-Ok-noted.notices.items c.in-Err-build_program.refusal c.in-Ok-statements_of.ensures c.deref-3.ensures.value
-    c.in-Ok-noted.ensures c.in-Ok-expand.ensures.ok c.requires c.in-Err-build_program.ensures.refused read
+pub returns-clause-built : goal.returns-clause-built
+returns-clause-built c =
+    let text = c.args.text.now in
+    let lines = c.args.lines.now in
+    let e = c.in-Ok-reading_of.ensures in
+    let said = c.deref.ensures.value ∙ c.in-Ok.ensures in
+    IfOk-weaker c.build_statements.result _ _
+    (λ w h. λ read rewritten. h (subst (λ u. ReadsPlain text u lines) (sym e.0) read) (e.1 ∙ rewritten ∙ ap (is_rewritten text) (sym e.0))
+    (e.2 ∙ ap (unused c.args.choices.now lines) said))
+    c.build_statements.ensures.built

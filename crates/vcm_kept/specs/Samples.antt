@@ -1,0 +1,270 @@
+-- Worked examples: what expanded statements are put as, row by row, computed.
+use Rattle.std.specs.Prelude.{◌≡◌, refl, ℕ, pos, true, false, List, [], ◌∷◌, ◌++◌, codes, Some, None}
+use Rattle.vcm_num.specs.declared.axis.Axis.TheVariants.{PlusZ}
+use Rattle.vcm_num.specs.declared.number.Kind.TheVariants as kinds
+use Rattle.vcm_num.specs.declared.number.Literal.TheVariants.{Int}
+use Rattle.vcm_spec.specs.declared.expression.BinaryOp.TheVariants.{Compare}
+use Rattle.vcm_spec.specs.declared.expression.Relation.TheVariants.{Equal, NotEqual, Greater}
+use Rattle.vcm_spec.specs.declared.words.FrameAxis.TheVariants as axes
+use Rattle.vcm_spec.specs.declared.words.FeatureWord.TheVariants as words
+use Rattle.vcm_spec.specs.declared.words.Setting.TheVariants.{Approach}
+use Rattle.vcm_spec.specs.declared.words.Source.TheVariants.{Actual}
+use Rattle.vcm_expr.specs.declared.expression.Term.TheVariants.{Number, Variable as Named}
+use Rattle.vcm_expr.specs.Source.{Source, Plain, Pair}
+use Rattle.vcm_forms.specs.declared.statement.Coordinates.{Coordinates}
+use Rattle.vcm_forms.specs.declared.statement.Rounds.{Rounds}
+use Rattle.vcm_forms.specs.declared.statement.Form.{Form}
+use Rattle.vcm_forms.specs.declared.statement.Form.TheVariants as form
+use Rattle.vcm_forms.specs.Statements.{as_read}
+use Rattle.vcm_remarks.specs.declared.remark.Cause.TheVariants as causes
+use Rattle.vcm_events.specs.declared.event.Event.TheVariants as events
+use Rattle.vcm_events.specs.Events.{lost, gained, event_form}
+use Rattle.vcm_events.specs.Joined.{pair}
+use Rattle.vcm_events.specs.Unknown.{unknown, unknown_place, unknown_rounds}
+use Rattle.vcm_events.specs.declared.spots.Spot.TheVariants as spots
+use Rattle.vcm_events.specs.Spots.{spotted, slanted}
+use Rattle.vcm_templates.specs.declared.guarded.Guarded.{Guarded}
+use Rattle.vcm_templates.specs.declared.carried.Carried.TheVariants as carried
+use Rattle.vcm_templates.specs.declared.carried.Item.TheVariants as items
+use Rattle.vcm_templates.specs.declared.lengths.Kept.TheVariants as kept
+use Rattle.vcm_templates.specs.Carried.{carried_term, item_term}
+use Rattle.vcm_templates.specs.Expressions.{number, truth, both, is_known, is_current, are_current, knows_frame}
+use Rattle.vcm_templates.specs.Templates.{stands, set, set_item, lose, know, untried, asks, asks_variables, asks_within, asks_all, where_known, elsewhere, ends, goes, gone, untried_point, lose_frame, new_frame, frame_gone, sets_bound}
+use Rattle.vcm_templates.specs.Exact.{folded}
+use Rattle.vcm_kept.specs.declared.text.Text.{Text}
+use Rattle.vcm_kept.specs.Effects.{no_effects}
+use Rattle.vcm_kept.specs.Places.{asks_place, motion_asks, length_asks, point_asks, asks_point, keeps_here, keeps_known, goes_to, moves_known, home_asks, goes_home, forgets}
+use Rattle.vcm_kept.specs.Exactly.{exact_form}
+use Rattle.vcm_kept.specs.Guarding.{Reached, begun, block, text_of, guards, know_variable, lose_variable, assigned_where, selects, unselected, point_goes, own_point, direction_asks, touches_declared, touches_itself, features_at, nominal_where, setting_where, made_where, recalled_where, machine_name, recalls_machine, unreported, is_measured, obtains_here, measures, closes, unknown_asks, asks_rounds}
+
+-- ---- what stands above
+
+-- a text without anything that is asked for in a text as a whole
+abbrev pub bare : Text
+bare = text_of []
+
+-- a REAL V, a whole number I, a feature A and a frame D stand above
+abbrev pub above : Reached
+above = record begun {
+  variables = record { name = codes "V"; kind = kinds.Real; expansion = 0 } ∷ record { name = codes "I"; kind = kinds.Int; expansion = 0 } ∷ [];
+  frames = codes "D" ∷ [];
+  features = codes "A" ∷ [];
+}
+
+-- what a statement on line 9 is put as
+abbrev pub puts : Form → List Guarded
+puts f = guards bare above 9 0 (exact_form above.variables f)
+
+-- a whole number
+abbrev pub whole : ℕ → Source
+whole n = Plain (Number (Int (pos n)))
+
+-- a variable
+abbrev pub variable : List ℕ → Source
+variable name = Plain (Named name 0)
+
+-- a place
+abbrev pub place : Coordinates
+place = record { x = whole 1; y = variable (codes "V"); z = whole 3 }
+
+-- what has to be known of it besides
+abbrev pub place_asked : List Guarded
+place_asked = asks 9 (both (Plain (carried_term carried.Asked)) (is_known 0)) ∷ []
+
+-- ---- values
+
+-- a value is kept where the variables of its expression are known
+pub value : puts (form.Assignment (as_read (codes "V")) (variable (codes "I")))
+    ≡ asks 9 (truth true) ∷ asks 9 (both (Plain (carried_term carried.Asked)) (is_known 1)) ∷ where_known 9
+    ∷ stands 9 0 (form.Assignment (as_read (codes "V")) (variable (codes "I"))) ∷ know_variable 9 0 ∷ elsewhere 9 ∷ lose_variable 9 0 ∷ ends 9 ∷ []
+unfolding assigned_where asks_variables asks_within sets_bound
+value = refl
+
+-- a value that isn't known
+pub value_lost : puts (form.Assignment (as_read (codes "V")) unknown) ≡ lose_variable 9 0 ∷ []
+unfolding folded
+value_lost = refl
+
+-- a value of a feature
+pub obtained : puts (form.Query (as_read (codes "V")) Actual (codes "A") words.X)
+    ≡ asks 9 (both (is_measured 0) length_asks) ∷ where_known 9 ∷ stands 9 0 (form.Query (as_read (codes "V")) Actual (codes "A") words.X)
+    ∷ know_variable 9 0 ∷ elsewhere 9 ∷ lose_variable 9 0 ∷ ends 9 ∷ []
+unfolding obtains_here sets_bound
+obtained = refl
+
+-- ---- motions
+
+-- a motion asks for the frame and the state of the machine, and for the variables of its place
+pub motion : puts (form.Move place) ≡ asks 9 motion_asks ∷ (place_asked ++ goes 9 ++ stands 9 0 (form.Move place) ∷ gone 9)
+unfolding moves_known asks_point asks_place asks_all asks_variables asks_within
+motion = refl
+
+-- a motion to a place that isn't known
+pub motion_untried : puts (form.Move unknown_place) ≡ untried 9 ∷ []
+unfolding folded
+motion_untried = refl
+
+-- home by the part file
+pub home : puts form.Home ≡ asks 9 home_asks ∷ (goes 9 ++ stands 9 0 form.Home ∷ gone 9)
+unfolding goes_home
+home = refl
+
+-- home, where the text has a FROM
+pub home_from : guards (record bare { from = true }) above 9 0 form.Home
+    ≡ stands 9 0 (form.Test (is_current carried.Home)) ∷ (goes_home false 9 0 ++ elsewhere 9 ∷ (goes_to false 9 kept.Home motion_asks ++ ends 9 ∷ []))
+home_from = refl
+
+-- FROM keeps its place, and home is no more that of the part file
+pub from : puts (spotted spots.Home place) ≡ keeps_known 9 above.variables kept.Home place ++ lose 9 carried.Home causes.Value ∷ []
+from = refl
+
+-- GOTARG keeps its place
+pub target : puts (spotted spots.Target place)
+    ≡ asks 9 length_asks ∷ (place_asked ++ where_known 9 ∷ (keeps_here 9 kept.Target place ++ elsewhere 9 ∷ forgets 9 kept.Target ∷ ends 9 ∷ []))
+unfolding keeps_known asks_place asks_all asks_variables asks_within
+target = refl
+
+-- ENDGO goes there, where the text has a GOTARG
+pub target_reached : guards (record bare { spots = true }) above 9 0 (gained events.Target) ≡ goes_to false 9 kept.Target (both motion_asks (is_current carried.OwnPoints))
+target_reached = refl
+
+-- ---- points
+
+-- MEAS
+pub measurement : puts (form.Measure (codes "A"))
+    ≡ set 9 carried.Points (Plain (number (pos 0))) ∷ set 9 carried.Wanted (Plain (number (pos 1))) ∷ set 9 carried.Single (Plain (number (pos 1))) ∷ []
+unfolding measures
+measurement = refl
+
+-- a point of a feature that is declared
+pub touch : guards bare (record above { measuring = Some (codes "A") }) 9 0 (form.Touch place (Some PlusZ))
+    ≡ asks 9 (direction_asks 0 (Some PlusZ)) ∷ (place_asked ++ goes 9 ++ point_goes false 9 0 (codes "A") place (Some PlusZ))
+unfolding touches_declared asks_point asks_place asks_all asks_variables asks_within
+touch = refl
+
+-- a point of another feature
+pub touch_itself : guards bare (record above { measuring = Some (codes "B") }) 9 0 (form.Touch place (Some PlusZ))
+    ≡ asks 9 point_asks ∷ (place_asked ++ goes 9 ++ own_point false 9 0 (codes "B") place PlusZ)
+unfolding touches_itself asks_point asks_place asks_all asks_variables asks_within
+touch_itself = refl
+
+-- a point outside of measurements
+pub touch_untried : puts (form.Touch place (Some PlusZ)) ≡ untried_point 9
+touch_untried = refl
+
+-- a slanted point with a place that isn't known
+pub slant_untried : guards (record bare { slants = true }) above 9 0 (slanted unknown_place (pos 600) (pos 0) (pos 800)) ≡ untried_point 9
+slant_untried = refl
+
+-- ---- frames and features
+
+-- FEAT
+pub feature : puts (form.Feature (codes "A") place PlusZ)
+    ≡ asks 9 length_asks ∷ (place_asked ++ where_known 9 ∷ stands 9 0 (form.Feature (codes "A") place PlusZ) ∷ nominal_where 9 0)
+unfolding features_at asks_place asks_all asks_variables asks_within
+feature = refl
+
+-- TRANS
+pub shift : puts (form.Shift (codes "D") (record { axis = axes.X; length = whole 5 } ∷ []))
+    ≡ asks 9 length_asks ∷ where_known 9 ∷ stands 9 0 (form.Shift (codes "D") (record { axis = axes.X; length = whole 5 } ∷ [])) ∷ made_where 9 0
+unfolding asks_all asks_variables asks_within
+shift = refl
+
+-- a frame that isn't known
+pub frame_unknown : puts (form.Shift (codes "D") []) ≡ lose_frame 9 ∷ set_item 9 items.Saved 0 (Plain (number (pos 0))) ∷ []
+unfolding frame_gone
+frame_unknown = refl
+
+-- RECALL, where the frame is known
+pub restored : puts (form.Restore (codes "D"))
+    ≡ stands 9 0 (form.Test (pair (Compare Greater) (item_term items.Saved 0) (carried_term carried.Floor))) ∷ stands 9 0 (form.Restore (codes "D")) ∷ recalled_where 9 0
+restored = refl
+
+-- RECALL of a frame that the text doesn't have
+pub restored_unknown : puts (form.Restore (codes "B")) ≡ lose_frame 9 ∷ []
+restored_unknown = refl
+
+-- the machine's frame
+pub machine : puts (gained events.Machine) ≡ stands 9 0 (form.Restore machine_name) ∷ new_frame 9
+unfolding recalls_machine
+machine = refl
+
+-- ---- choices and loops
+
+-- IF by a value that is known where I is
+pub test : puts (form.Test (Pair (Compare Equal) (variable (codes "I")) (whole 1)))
+    ≡ asks 9 (truth true) ∷ asks 9 (both (Plain (carried_term carried.Asked)) (is_known 1)) ∷ where_known 9
+    ∷ stands 9 0 (form.Test (Pair (Compare Equal) (variable (codes "I")) (whole 1))) ∷ []
+unfolding asks_all asks_variables asks_within
+test = refl
+
+-- IF by a value that isn't known
+pub test_unknown : puts (form.Test unknown) ≡ asks 9 (truth false) ∷ where_known 9 ∷ stands 9 0 (form.Test (truth false)) ∷ []
+unfolding unknown_asks folded
+test_unknown = refl
+
+-- its end, where motions stand between: elsewhere they aren't tried
+pub test_end : guards bare (record above { blocks = record (block 7 None []) { effects = record no_effects { moves = true } } ∷ [] }) 9 0 form.TestEnd
+    ≡ stands 9 0 form.TestEnd ∷ closes 7 (record no_effects { moves = true }) []
+test_end = refl
+
+-- DO
+abbrev pub rounds : Rounds
+rounds = record { variable = as_read (codes "I"); initial = whole 1; limit = whole 3; increment = None }
+
+pub loop : puts (form.Repeat rounds) ≡ asks 9 (truth true) ∷ where_known 9 ∷ stands 9 0 (form.Repeat rounds) ∷ know_variable 9 1 ∷ []
+unfolding asks_rounds asks_all asks_variables asks_within
+loop = refl
+
+-- DO by a value that isn't known
+pub loop_unknown : puts (form.Repeat unknown_rounds) ≡ asks 9 (truth false) ∷ where_known 9 ∷ stands 9 0 (form.Test (truth false)) ∷ []
+unfolding unknown_asks folded
+loop_unknown = refl
+
+-- SELECT
+pub choice : puts (form.Choose (whole 2)) ≡ asks 9 (truth true) ∷ where_known 9 ∷ stands 9 0 (form.Choose (whole 2)) ∷ []
+unfolding asks_all asks_variables asks_within
+choice = refl
+
+-- SELECT by a value that isn't known
+pub choice_unknown : puts (form.Choose unknown) ≡ asks 9 (truth false) ∷ where_known 9 ∷ stands 9 0 (form.Choose (whole 0)) ∷ []
+unfolding unknown_asks folded
+choice_unknown = refl
+
+-- ---- the machine
+
+-- a mode that isn't programmed
+pub by_hand : puts (lost events.Mode) ≡ lose 9 carried.Mode causes.Mode ∷ set 9 carried.Place (Plain (number (pos 0))) ∷ []
+by_hand = refl
+
+-- a programmed one
+pub programmed : puts (gained events.Mode) ≡ know 9 carried.Mode ∷ []
+programmed = refl
+
+-- a table
+pub table : puts (lost events.Table) ≡ lose 9 carried.Table causes.Table ∷ set 9 carried.Place (Plain (number (pos 0))) ∷ []
+table = refl
+
+-- a sensor, by the line that selects it
+pub sensor : puts (event_form events.Sensor (pos 4)) ≡ selects 9 (pair (Compare NotEqual) (carried_term carried.Sensor) (number (pos 4))) (whole 4)
+sensor = refl
+
+-- a sensor that isn't known
+pub sensor_unknown : puts (lost events.Sensor) ≡ unselected 9
+sensor_unknown = refl
+
+-- a setting
+pub setting : puts (form.Configure Approach (whole 2))
+    ≡ asks 9 (are_current (carried.Unit ∷ [])) ∷ where_known 9 ∷ stands 9 0 (form.Configure Approach (whole 2)) ∷ setting_where 9 carried.Approach
+unfolding asks_all asks_variables asks_within
+setting = refl
+
+-- a setting that isn't known
+pub setting_lost : puts (form.Configure Approach unknown) ≡ lose 9 carried.Approach causes.Setting ∷ []
+unfolding folded
+setting_lost = refl
+
+-- OUTPUT
+pub report : puts (form.Report Actual (codes "A"))
+    ≡ asks 9 (both knows_frame (is_measured 0)) ∷ where_known 9 ∷ stands 9 0 (form.Report Actual (codes "A")) ∷ elsewhere 9 ∷ unreported 9 ∷ ends 9 ∷ []
+report = refl

@@ -1,0 +1,3 @@
+pub mod Found
+pub mod Ended
+pub mod Same

@@ -1,0 +1,89 @@
+-- Statements about producers' texts. Each is a clause of a law in src/laws.rt.
+use Rattle.std.specs.Prelude.{◌≡◌, ℕ, Bool, true, false, nat_eq, List, [], ◌∷◌, ◌++◌, None}
+use Rattle.std.specs.List.{list_all, flat_map}
+use Rattle.vcm_lines.specs.declared.logical.Logical.{Logical}
+use Rattle.vcm_syntax.specs.Statements.{statement_of}
+use Rattle.vcm_forms.specs.declared.statement.Form.TheVariants.{Opening, Measures}
+use Rattle.vcm_forms.specs.declared.statement.Statement.{Statement}
+use Rattle.vcm_macro.specs.declared.placed.Placed.{Placed}
+use Rattle.vcm_tree.specs.Acceptance.{IsAccepted}
+use Rattle.vcm_program.specs.Program.{Parsed}
+use Rattle.vcm_program.specs.declared.accepted.Noticed.{Noticed}
+use Rattle.vcm_run.specs.Built.{IsImageOf}
+use Rattle.vcm_remarks.specs.declared.remark.NumberedRemark.{NumberedRemark}
+use Rattle.vcm_heads.specs.declared.rows.Row.{Row}
+use Rattle.vcm_heads.specs.declared.rows.Row.TheVariants as rows
+use Rattle.vcm_heads.specs.Rows.{row_in, words_of, own_behind}
+use Rattle.vcm_said.specs.Said.{said}
+use Rattle.vcm_said.specs.All.{on_line, said_unless, said_all, shape_fault}
+use Rattle.vcm_given.specs.declared.choices.Choices.{Choices}
+use Rattle.vcm_whole.specs.declared.whole.Facts.{Facts}
+use Rattle.vcm_whole.specs.Whole.{Expands, stays, IsPut, IsWholeBuilt}
+
+-- ---- one answer
+
+-- a text whose statements say this and expand to this is put as one program: one image, one list of notices and one of remarks
+abbrev pub IsPutOnce : Type 0
+IsPutOnce =
+    (c : Choices) (text : List ℕ) (ss : List Statement) (ps : List Placed) (bytes more : List ℕ) (ns ms : List Noticed) (rs qs : List NumberedRemark) (w v : Bool)
+    → IsPut c text ss ps bytes ns rs w → IsPut c text ss ps more ms qs v → (bytes ≡ more) × (ns ≡ ms) × (rs ≡ qs) × (w ≡ v)
+
+-- and so is a text, of which the same is told
+abbrev pub WholesAreOne : Type 0
+WholesAreOne =
+    (c : Choices) (text bytes more : List ℕ) (ns ms : List Noticed) (rs qs : List NumberedRemark) (facts told : Facts)
+    → IsWholeBuilt c text bytes ns rs facts → IsWholeBuilt c text more ms qs told → (bytes ≡ more) × (ns ≡ ms) × (rs ≡ qs) × (facts ≡ told)
+
+-- ---- texts of the language
+
+-- the image is that of this program, with its notices and no remark
+pub record IsAsWritten (p : Parsed) (bytes : List ℕ) (ns : List Noticed) (rs : List NumberedRemark) (facts : Facts) : Type 0 where
+  pub image : IsImageOf p bytes
+  pub notices_are : ns ≡ p.notices
+  pub no_remarks : rs ≡ []
+  pub written : facts.is_as_written ≡ true
+
+-- a text that is accepted as a program, and that stays as it is written, since it is read in one way and loses nothing, is put as that program
+abbrev pub AcceptedTextsStay : Type 0
+AcceptedTextsStay =
+    (c : Choices) (text bytes : List ℕ) (ns : List Noticed) (rs : List NumberedRemark) (facts : Facts) (p : Parsed) (ls : List Logical) (ps : List Placed)
+    → IsAccepted text p → Expands c text facts.unit ls ps → stays c ps ≡ true → IsWholeBuilt c text bytes ns rs facts → IsAsWritten p bytes ns rs facts
+
+-- ---- each statement
+
+-- what each statement of a text says, in the order of the text: a list for each
+abbrev pub said_lists : Bool → List Logical → List (List Statement)
+said_lists own [] = []
+said_lists own (l ∷ ls) = said_unless own l ∷ said_lists (own_behind own (words_of l)) ls
+
+-- what a text says is what its statements say, one behind the other, behind the two statements that open it
+abbrev pub NothingIsLeftOut : Type 0
+NothingIsLeftOut = (ls : List Logical) → said_all ls ≡ on_line 1 (Opening ∷ Measures ∷ []) ++ flat_map (λ ss. ss) (said_lists false ls)
+
+-- to each statement belongs one of the lists, and all in it has the line of the statement
+abbrev pub AreOnTheirLines : List Logical → List (List Statement) → Type 0
+AreOnTheirLines [] [] = Unit {0}
+AreOnTheirLines (l ∷ ls) (ss ∷ sss) = (list_all (λ s. nat_eq s.line l.line) ss ≡ true) × AreOnTheirLines ls sss
+AreOnTheirLines ls sss = ⊥
+
+-- all that is said has the line of its statement
+abbrev pub EachHasItsLine : Type 0
+EachHasItsLine = (ls : List Logical) → AreOnTheirLines ls (said_lists false ls)
+
+-- whether statements of a row may say nothing: those that move nothing and choose nothing
+abbrev pub may_be_silent : Row → Bool
+may_be_silent rows.Stated = true
+may_be_silent rows.Value = true
+may_be_silent rows.Text = true
+may_be_silent rows.Output = true
+may_be_silent rows.Settings = true
+may_be_silent rows.Recall = true
+may_be_silent rows.Save = true
+may_be_silent rows.Silent = true
+may_be_silent row = false
+
+-- a statement that says nothing, and isn't refused, is of such a row
+abbrev pub SilentOnesMoveNothing : Type 0
+SilentOnesMoveNothing =
+    (l : Logical) → shape_fault l.line (row_in (words_of l)) (statement_of (words_of l)) ≡ None → said l.line (words_of l) ≡ []
+    → may_be_silent (row_in (words_of l)) ≡ true
