@@ -36,6 +36,11 @@ FILES = {
     "F(A_VERY_LONG_NAME_OF_A_POINT)=FEAT/POINT,CART,10.00001,20.00002,20.0,0,0,1\nMEAS/POINT,F(A_VERY_LONG_NAME_OF_A_POINT),1\n"
     "PTMEAS/CART,10.00001,20.00002,20.0,0,0,1\nENDMES\nOUTPUT/FA(A_VERY_LONG_NAME_OF_A_POINT)\nENDFIL\n",
     "inch.dmi": "DMISMN/'INCH',05.2\nUNITS/INCH,ANGDEC\nSNSET/APPRCH,0.1\nGOTO/0.5,0.25,1.5\nGOTO/1.00003,0.5,1.5\nGOHOME\nENDFIL\n",
+    # datums of points, a CASE with several values, a number finer than a thousandth, a CALL that doesn't fit
+    "points.dmi": HEAD + "MODE/PROG,MAN\nSNSET/APPRCH,5\nSNSET/RETRCT,5\nSNSET/SEARCH,5\nDECL/INTGR,I\nDECL/REAL,R\n"
+    "M(K)=MACRO/X\nGOTO/X,20,60\nENDMAC\nF(P)=FEAT/POINT,CART,20,20,19,0,0,1\nMEAS/POINT,F(P),1\nPTMEAS/CART,20,20,19,0,0,1\nENDMES\n"
+    "DATDEF/FA(P),DAT(A)\nD(T)=DATSET/DAT(A),ZORIG\nI=ASSIGN/2\nR=ASSIGN/1000*0.0254\nSELECT/I\nCASE/1,2\nGOTO/R,20,40\nENDCAS\nDFTCAS\nENDCAS\n"
+    "ENDSEL\nCALL/M(K),'A'\nENDFIL\n",
     "datums.dmi": "DMISMN/'DATUMS',05.2\nUNITS/MM,ANGDEC\nD(PART)=DATSET/DAT(A),ZDIR,ZORIG,DAT(B),XDIR\nF(C1)=FEAT/CIRCLE,INNER,CART,20,20,20,0,0,1,10\n"
     "GOTO/20,20,50\nMEAS/CIRCLE,F(C1),3\nPTMEAS/CART,25,20,20,-1,0,0\nPTMEAS/CART,20,25,20,0,-1,0\nPTMEAS/CART,15,20,20,1,0,0\nENDMES\nGOHOME\nENDFIL\n",
     # inches, a question, and a frame by datums
@@ -179,6 +184,7 @@ def runs():
     yield case("why lost.dmi part-a.toml --whole", status=3)
     yield case("points lost.dmi part-a.toml --whole", kind="lines", status=3)
     yield case("check touch.dmi square.dmi --whole", kind="several")
+    yield case("run points.dmi part-a.toml --whole", status=7)
     yield case("trace turned.dmi torn.toml", status=1)
     for command in ("run", "why", "contacts", "trace", "margin", "points", "picture", "view"):
         kind = {"contacts": "lines", "trace": "lines", "points": "lines", "view": "page"}.get(command, "")

@@ -107,15 +107,18 @@ is_kind_event events.Clearance = true
 is_kind_event events.Compensation = true
 is_kind_event e = false
 
--- whether an event is one of the plane, which polar places alone ask for: they aren't put as they are written
-abbrev pub is_plane_event : Event → Bool
-is_plane_event events.Plane = true
-is_plane_event e = false
+-- whether an event changes nothing where nothing asks for it: the plane, which polar places alone ask for, a datum, which frames by it alone do, and the begin of
+-- the block of a CASE; what asks isn't put as it is written
+abbrev pub is_quiet_event : Event → Bool
+is_quiet_event events.Plane = true
+is_quiet_event events.Bind = true
+is_quiet_event events.CaseBegins = true
+is_quiet_event e = false
 
--- whether an assignment loses nothing: an event by which something is known again, one of the plane, or a value that the machine has
+-- whether an assignment loses nothing: an event by which something is known again, or that changes nothing, or a value that the machine has
 abbrev pub is_sure_assignment : List Target → Option Event → Source → Bool
 is_sure_assignment given None value = is_sure_value given value
-is_sure_assignment given (Some e) value = is_plane_event e || (is_kind_event e && is_number (leaf_in value))
+is_sure_assignment given (Some e) value = is_quiet_event e || (is_kind_event e && is_number (leaf_in value))
 
 -- whether the name of a feature is one of the text
 abbrev pub is_own : Option Spot → Bool

@@ -5,7 +5,7 @@ ghost use Rattle.std.specs.List.{list_any, list_all};
 ghost use Rattle.vcm_expr.specs.Source.{leaf_in};
 ghost use Rattle.vcm_events.specs.Events.{event_named};
 ghost use Rattle.vcm_events.specs.Spots.{spot_named};
-ghost use Rattle.vcm_certain.specs.Certain.{is_same, is_given, setting_target, feature_target, is_sure_piece, is_sure_value, is_sure_place, is_sure_increment, are_sure_shifts, are_set, is_number, is_kind_event, is_plane_event, is_sure_assignment, is_own, is_width, has_shifts, is_sure_shift, is_sure_point, is_sure};
+ghost use Rattle.vcm_certain.specs.Certain.{is_same, is_given, setting_target, feature_target, is_sure_piece, is_sure_value, is_sure_place, is_sure_increment, are_sure_shifts, are_set, is_number, is_kind_event, is_quiet_event, is_sure_assignment, is_own, is_width, has_shifts, is_sure_shift, is_sure_point, is_sure};
 
 use crate::certain::FEATURE;
 use vcm_events::{Event, Spot, slanted_name};
@@ -141,11 +141,11 @@ fn is_kind_event(event: Event) -> bool
     }
 }
 
-// Whether an event is one of the plane, which polar places alone ask for.
-fn is_plane_event(event: Event) -> bool
-    ensures { result ≡ is_plane_event event }
+// Whether an event changes nothing where nothing asks for it.
+fn is_quiet_event(event: Event) -> bool
+    ensures { result ≡ is_quiet_event event }
 {
-    matches!(event, Event::Plane)
+    matches!(event, Event::Plane | Event::Bind | Event::CaseBegins)
 }
 
 // Whether an assignment loses nothing.
@@ -153,7 +153,7 @@ fn is_sure_assignment(given: &[Target], name: &[u8], value: &Expr) -> bool
     ensures { result ≡ is_sure_assignment given.now (event_named name.now) value.now }
 {
     match Event::named(name) {
-        Some(event) => is_plane_event(event) || (is_kind_event(event) && is_number(value)),
+        Some(event) => is_quiet_event(event) || (is_kind_event(event) && is_number(value)),
         None => is_sure_value(given, value),
     }
 }

@@ -123,7 +123,7 @@ fn tell_all<R: Eprint + AllocGlobal>(
     let front = if checked.is_named { checked.name } else { "" };
     let told = faults_of(rt.alloc(), front.as_bytes(), text)?;
     tell_bytes(rt, told.text.as_slice());
-    Ok(told.count != 0)
+    Ok(!told.faults.is_empty())
 }
 
 // Adds lines as they are listed, adjacent ones as their first and their last.

@@ -198,7 +198,7 @@ fn tell_lengths<R: Eprint>(rt: &R, front: &str, facts: &Facts) {
     let _ = match facts.unit {
         Unit::Millimetre => {
             eprintln!(rt;
-                "notice: lengths with more than three decimals are taken as whole micrometres"
+                "notice: numbers with more than three decimals: lengths are taken as whole micrometres"
             )
         }
         unit => {

@@ -1,3 +1,4 @@
 pub mod Raised
 pub mod Reversed
 pub mod Settles
+pub mod Suiting

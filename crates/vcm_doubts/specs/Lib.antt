@@ -1,4 +1,5 @@
 pub mod Spellings
 pub mod Doubts
+pub mod Laws
 pub mod Settled
 pub mod inner

@@ -1,5 +1,5 @@
 -- What becomes of statements that are read in two ways: they are put as something that isn't known.
-use Rattle.std.specs.Prelude.{ℕ, ◌&&◌, ◌||◌, not, nat_eq, codes, Bool, true, false, if◌then◌else◌, List, [], ◌∷◌, ◌++◌, map, length, Option, Some, None}
+use Rattle.std.specs.Prelude.{ℕ, ◌&&◌, ◌||◌, not, nat_le, codes, Bool, true, false, if◌then◌else◌, List, [], ◌∷◌, ◌++◌, map, length, Option, Some, None}
 use Rattle.std.specs.List.{list_any}
 use Rattle.std.specs.Str.{bytes_eq}
 use Rattle.vcm_lines.specs.declared.logical.Logical.{Logical}
@@ -8,6 +8,7 @@ use Rattle.vcm_expr.specs.declared.expression.Piece.TheVariants.{Variable}
 use Rattle.vcm_expr.specs.Source.{Source, parts}
 use Rattle.vcm_spec.specs.declared.words.FeatureWord.{FeatureWord}
 use Rattle.vcm_spec.specs.declared.words.Source.{Source as Side}
+use Rattle.vcm_forms.specs.declared.statement.Parameter.{Parameter}
 use Rattle.vcm_forms.specs.declared.statement.Argument.{Argument}
 use Rattle.vcm_forms.specs.declared.statement.Coordinates.{Coordinates}
 use Rattle.vcm_forms.specs.declared.statement.Target.{Target}
@@ -18,14 +19,17 @@ use Rattle.vcm_forms.specs.declared.statement.Statement.{Statement}
 use Rattle.vcm_events.specs.declared.event.Event.TheVariants as events
 use Rattle.vcm_events.specs.Events.{lost, gained}
 use Rattle.vcm_events.specs.Unknown.{unknown, unknown_rounds}
-use Rattle.vcm_doubts.specs.Doubts.{Doubts, is_among, doubts_of}
+use Rattle.vcm_macro.specs.Rules.{is_there}
+use Rattle.vcm_num.specs.declared.limits.TheConstants.{MOST_PARAMETERS}
+use Rattle.vcm_doubts.specs.Doubts.{Doubts, is_among, sets, doubts_of}
 
 -- ---- calls
 
--- a macro: its name, and how many parameters it has
+-- a macro: its name, its parameters, and the variables that statements of its body set
 pub record Known : Type 0 where
   pub name : List ℕ
-  pub count : ℕ
+  pub parameters : List Parameter
+  pub set : List (List ℕ)
 
 -- the macros that end above, and the one that is open
 pub record Macros : Type 0 where
@@ -36,6 +40,15 @@ pub record Macros : Type 0 where
 abbrev pub no_macros : Macros
 no_macros = record { above = []; current = None }
 
+-- a macro that begins
+abbrev pub begun : List ℕ → List Parameter → Known
+begun name ps = record { name = name; parameters = ps; set = [] }
+
+-- a macro that is open, behind a statement
+abbrev pub gone_on : Form → Option Known → Option Known
+gone_on f None = None
+gone_on f (Some m) = Some (record m { set = m.set ++ sets f })
+
 -- a macro that ends
 abbrev pub ended : List Known → Option Known → List Known
 ended ms None = ms
@@ -43,13 +56,23 @@ ended ms (Some m) = m ∷ ms
 
 -- the macros behind a statement
 abbrev pub macros_behind : Macros → Form → Macros
-macros_behind ms (form.Macro name ps) = record ms { current = Some (record { name = name; count = length ps }) }
+macros_behind ms (form.Macro name ps) = record ms { current = Some (begun name ps) }
 macros_behind ms form.MacroEnd = record { above = ended ms.above ms.current; current = None }
-macros_behind ms f = ms
+macros_behind ms f = record ms { current = gone_on f ms.current }
 
--- whether a macro may be called by this name with so many arguments
-abbrev pub is_called : List ℕ → ℕ → Known → Bool
-is_called name n m = bytes_eq m.name name && nat_eq m.count n
+-- whether an argument is what a parameter wants where the body sets these variables: a name for a quoted one, else a value, and the body doesn't set it
+abbrev pub fits : List (List ℕ) → Parameter → Argument → Bool
+fits set p a = if p.quoted then is_there a.name else is_there a.value && not (is_among set p.name)
+
+-- whether there are as many arguments as parameters, and each is what its parameter wants
+abbrev pub all_fit : List (List ℕ) → List Parameter → List Argument → Bool
+all_fit set [] [] = true
+all_fit set (p ∷ ps) (a ∷ args) = fits set p a && all_fit set ps args
+all_fit set ps args = false
+
+-- whether a macro may be called by this name with these arguments: it has 16 parameters at most
+abbrev pub is_called : List ℕ → List Argument → Known → Bool
+is_called name args m = bytes_eq m.name name && (nat_le (length m.parameters) MOST_PARAMETERS && all_fit m.set m.parameters args)
 
 -- whether the value of a variable isn't followed: its name is spelled in two ways, or macros share it
 abbrev pub is_unfollowed : Doubts → List ℕ → Bool
@@ -74,11 +97,11 @@ is_doubtful_name d (Some name) = is_among d.spelled name
 abbrev pub is_doubtful : Doubts → Argument → Bool
 is_doubtful d a = is_doubtful_name d a.name || is_doubtful_value d a.value
 
--- whether it isn't known what a CALL does: a parameter is spelled in two ways, no macro above takes so many arguments, the macro's name is spelled in two ways, or
--- an argument is read in two ways
+-- whether it isn't known what a CALL does: a parameter is spelled in two ways, no macro above takes these arguments, the macro's name is spelled in two ways, or an
+-- argument is read in two ways
 abbrev pub is_doubtful_call : Doubts → List Known → List ℕ → List Argument → Bool
 is_doubtful_call d ms name args =
-    d.twofold || (not (list_any (is_called name (length args)) ms) || (is_among d.spelled name || list_any (is_doubtful d) args))
+    d.twofold || (not (list_any (is_called name args) ms) || (is_among d.spelled name || list_any (is_doubtful d) args))
 
 -- ---- each statement
 

@@ -3,6 +3,7 @@
 #![tactic(auto)]
 
 mod doubts;
+pub mod laws;
 mod macros;
 mod names;
 mod respelled;

@@ -1,20 +1,66 @@
 //! The macros above a statement.
 
-ghost use Rattle.std.specs.Prelude.{◌≡◌, OnOk};
+ghost use Rattle.std.specs.Prelude.{◌≡◌, IfOk, OnOk};
 ghost use Rattle.std.specs.List.{list_any};
-ghost use Rattle.vcm_doubts.specs.Settled.{is_called};
+ghost use Rattle.vcm_doubts.specs.Settled.{begun, fits, all_fit, is_called};
 
+use crate::names::{add_set, is_among};
 use std::alloc::Global;
 use std::marker::Model;
-use vcm_forms::Form;
+use vcm_forms::{Argument, Form, Parameter};
 use vcm_items::Name;
-use vcm_num::{NoMemory, is};
+use vcm_num::{Items, MOST_PARAMETERS, NoMemory, is};
 
-/// A macro: its name, and how many parameters it has. Contracts see it as the `Known` of the definitions.
+/// A macro: its name, its parameters, and the variables that statements of its body set. Contracts see it as the `Known` of the definitions.
 #[derive(Drop)]
 pub(crate) struct Known {
     name: Name,
-    count: usize,
+    parameters: Items<Parameter>,
+    changed: Items<Name>,
+}
+
+// The same parameters once more.
+fn copied(alloc: Global, parameters: &[Parameter]) -> Result<Items<Parameter>, NoMemory>
+    ensures { IfOk result (λ ps. ps ≡ parameters.now) }
+{
+    let mut copies = Items::new(alloc);
+    for parameter in parameters {
+        copies.push(Parameter {
+            name: parameter.name.copy(),
+            quoted: parameter.quoted,
+        })?;
+    }
+    Ok(copies)
+}
+
+// Whether an argument is what a parameter wants where the body sets these variables: a name for a quoted one, else a value, and the body doesn't set it.
+fn fits(changed: &[Name], parameter: &Parameter, argument: &Argument) -> bool
+    ensures { result ≡ fits changed.now parameter.now argument.now }
+{
+    if parameter.quoted {
+        argument.name.is_some()
+    } else {
+        argument.value.is_some() && !is_among(changed, parameter.name.as_bytes())
+    }
+}
+
+// Whether there are as many arguments as parameters, and each is what its parameter wants.
+fn all_fit(changed: &[Name], parameters: &[Parameter], arguments: &[Argument]) -> bool
+    ensures { result ≡ all_fit changed.now parameters.now arguments.now }
+{
+    let mut rest = parameters;
+    let mut arguments = arguments;
+    'each: while let Some((parameter, others)) = rest.split_first() {
+        let Some((argument, left)) = arguments.split_first() else {
+            return false;
+        };
+        if !fits(changed, parameter, argument) {
+            return false;
+        }
+        rest = others;
+        arguments = left;
+    }
+    arguments.is_empty()
 }
 
 impl Model for Known {
@@ -22,33 +68,51 @@ impl Model for Known {
 
     ghost Value = { Meaning };
 
-    ghost view = { λ m. record { name = m.name; count = m.count } };
+    ghost view = { λ m. record { name = m.name; parameters = m.parameters; set = m.changed } };
 }
 
 impl Known {
-    // The macro with this name.
-    fn new(name: &Name, count: usize) -> Known
-        ensures { result ≡ record { name = name.now; count = count } }
+    ghost use Rattle.std.specs.Prelude.{◌++◌};
+    ghost use Rattle.vcm_doubts.specs.Doubts.{sets};
+
+    // A macro that begins.
+    fn new(alloc: Global, name: &Name, parameters: &[Parameter]) -> Result<Known, NoMemory>
+        ensures { IfOk result (λ m. m ≡ begun name.now parameters.now) }
     {
-        Known {
+        let parameters = copied(alloc, parameters)?;
+        Ok(Known {
             name: name.copy(),
-            count,
-        }
+            parameters,
+            changed: Items::new(alloc),
+        })
     }
 
-    // Whether it may be called by this name with so many arguments.
-    fn is_called(&self, name: &[u8], count: usize) -> bool
-        ensures { result ≡ is_called name.now count self.now }
+    // A statement of its body.
+    fn pass(&mut self, form: &Form) -> Result<(), NoMemory>
+        ensures { OnOk result (self.new ≡ record self.old { set = self.old.set ++ sets form.now }) }
     {
-        is(self.name.as_bytes(), name) && self.count == count
+        add_set(&mut self.changed, form)
+    }
+
+    // Whether it may be called by this name with these arguments.
+    fn is_called(&self, name: &[u8], arguments: &[Argument]) -> bool
+        ensures { result ≡ is_called name.now arguments.now self.now }
+    {
+        is(self.name.as_bytes(), name)
+            && self.parameters.len() <= MOST_PARAMETERS
+            && all_fit(
+                self.changed.as_slice(),
+                self.parameters.as_slice(),
+                arguments,
+            )
     }
 }
 
-// Whether one of these macros may be called by this name with so many arguments.
-fn has_called(macros: &[Known], name: &[u8], count: usize) -> bool
-    ensures { result ≡ list_any (is_called name.now count) macros.now }
+// Whether one of these macros may be called by this name with these arguments.
+fn has_called(macros: &[Known], name: &[u8], arguments: &[Argument]) -> bool
+    ensures { result ≡ list_any (is_called name.now arguments.now) macros.now }
 {
-    macros.iter().any(|known| known.is_called(name, count))
+    macros.iter().any(|known| known.is_called(name, arguments))
 }
 
 /// The macros that end above, and the one that is open. Contracts see it as the `Macros` of the definitions.
@@ -69,7 +133,7 @@ impl Model for Macros {
 
 impl Macros {
     ghost use Rattle.std.specs.Prelude.{Some, None};
-    ghost use Rattle.vcm_doubts.specs.Settled.{no_macros, ended, macros_behind};
+    ghost use Rattle.vcm_doubts.specs.Settled.{no_macros, gone_on, ended, macros_behind};
 
     /// No macro stands above.
     pub(crate) fn new(alloc: Global) -> Macros
@@ -81,19 +145,25 @@ impl Macros {
         }
     }
 
-    /// Whether a macro above may be called by this name with so many arguments.
+    /// Whether a macro above may be called by this name with these arguments.
     #[tactic(auto, using(crate::proofs::Reversed::any_reversed))]
-    pub(crate) fn have(&self, name: &[u8], count: usize) -> bool
-        ensures { result ≡ list_any (is_called name.now count) self.now.above }
+    pub(crate) fn have(&self, name: &[u8], arguments: &[Argument]) -> bool
+        ensures { result ≡ list_any (is_called name.now arguments.now) self.now.above }
     {
-        has_called(&self.above, name, count)
+        has_called(&self.above, name, arguments)
     }
 
     // A macro begins.
-    fn begin(&mut self, name: &Name, count: usize)
-        ensures { self.new ≡ record self.old { current = Some (record { name = name.now; count = count }) } }
+    fn begin(
+        &mut self,
+        alloc: Global,
+        name: &Name,
+        parameters: &[Parameter],
+    ) -> Result<(), NoMemory>
+        ensures { OnOk result (self.new ≡ record self.old { current = Some (begun name.now parameters.now) }) }
     {
-        self.current = Some(Known::new(name, count));
+        self.current = Some(Known::new(alloc, name, parameters)?);
+        Ok(())
     }
 
     // A macro ends.
@@ -109,21 +179,32 @@ impl Macros {
         }
     }
 
+    // The macro that is open, if there is one, goes on.
+    fn go_on(&mut self, form: &Form) -> Result<(), NoMemory>
+        ensures { OnOk result (self.new ≡ record self.old { current = gone_on form.now self.old.current }) }
+    {
+        match self.current.take() {
+            Some(mut known) => {
+                known.pass(form)?;
+                self.current = Some(known);
+                Ok(())
+            }
+            None => Ok(()),
+        }
+    }
+
     /// A statement is passed.
     ///
     /// # Errors
     ///
     /// Out of memory.
-    pub(crate) fn pass(&mut self, form: &Form) -> Result<(), NoMemory>
+    pub(crate) fn pass(&mut self, alloc: Global, form: &Form) -> Result<(), NoMemory>
         ensures { OnOk result (self.new ≡ macros_behind self.old form.now) }
     {
         match form {
-            Form::Macro(name, parameters) => {
-                self.begin(name, parameters.len());
-                Ok(())
-            }
+            Form::Macro(name, parameters) => self.begin(alloc, name, parameters.as_slice()),
             Form::MacroEnd => self.end(),
-            _ => Ok(()),
+            _ => self.go_on(form),
         }
     }
 }

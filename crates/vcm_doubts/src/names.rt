@@ -31,8 +31,8 @@ fn is_open_behind(opened: bool, form: &Form) -> bool
     }
 }
 
-// The variable that a statement sets, if it sets one.
-fn add_set(names: &mut Items<Name>, form: &Form) -> Result<(), NoMemory>
+/// The variable that a statement sets, if it sets one.
+pub(crate) fn add_set(names: &mut Items<Name>, form: &Form) -> Result<(), NoMemory>
     ensures { OnOk result (names.new ≡ names.old ++ sets form.now) }
 {
     match form {

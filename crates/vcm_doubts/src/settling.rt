@@ -73,13 +73,13 @@ fn has_doubtful(doubts: &Doubts, arguments: &[Argument]) -> bool
         .any(|argument| is_doubtful(doubts, argument))
 }
 
-// Whether it isn't known what a CALL does: a parameter is spelled in two ways, no macro above takes so many arguments, its name is spelled in two ways, or an argument is read in two ways.
+// Whether it isn't known what a CALL does: a parameter is spelled in two ways, no macro above takes these arguments, its name is spelled in two ways, or an argument is read in two ways.
 fn is_doubtful_call(doubts: &Doubts, macros: &Macros, name: &Name, arguments: &[Argument]) -> bool
     ensures { result ≡ is_doubtful_call doubts.now macros.now.above name.now arguments.now }
 {
     let name = name.as_bytes();
     doubts.is_twofold()
-        || !macros.have(name, arguments.len())
+        || !macros.have(name, arguments)
         || doubts.is_spelled_twice(name)
         || has_doubtful(doubts, arguments)
 }
@@ -179,6 +179,7 @@ fn put(out: &mut Vec<Statement>, doubtful: bool, statement: Statement) -> Result
 // One statement more.
 #[tactic(auto, using(crate::proofs::Settles::settles))]
 fn settle_statement(
+    alloc: Global,
     out: &mut Vec<Statement>,
     doubts: &Doubts,
     macros: &mut Macros,
@@ -188,7 +189,7 @@ fn settle_statement(
     ensures macros { OnOk result (macros.new ≡ macros_behind macros.old statement.form) }
 {
     let doubtful = is_in_doubt(doubts, macros, &statement.form);
-    macros.pass(&statement.form)?;
+    macros.pass(alloc, &statement.form)?;
     put(out, doubtful, statement)
 }
 
@@ -203,7 +204,7 @@ fn settle_all(
     let mut out = Vec::new(alloc);
     let mut macros = Macros::new(alloc);
     for statement in said {
-        settle_statement(&mut out, doubts, &mut macros, statement)?;
+        settle_statement(alloc, &mut out, doubts, &mut macros, statement)?;
     }
     Ok(out)
 }

@@ -94,56 +94,116 @@ fn argument(name: &[u8]) -> Option<Argument> {
     })
 }
 
-// A call of the macro M with the depth.
-fn call(alloc: Global) -> Option<Statement> {
+// One that is a name in quotes.
+fn quoted(name: &[u8]) -> Option<Argument> {
+    Some(Argument {
+        name: Some(variable(name)?.name),
+        value: None,
+    })
+}
+
+// One that is a number.
+fn number() -> Argument {
+    Argument {
+        name: None,
+        value: Some(Expr::leaf(Term::Number(Literal::Int(1)))),
+    }
+}
+
+// A call of the macro M.
+fn call(alloc: Global, argument: Argument) -> Option<Statement> {
     let mut arguments = Items::new(alloc);
-    arguments.push(argument(b"DEPTH")?).ok()?;
+    arguments.push(argument).ok()?;
     Some(Statement {
-        line: 3,
+        line: 4,
         form: Form::Call(variable(b"M")?.name, arguments),
     })
 }
 
-// The macro M, which has one parameter, and sets no variable.
-fn macro_and_call(alloc: Global) -> Option<Vec<Statement>> {
+// The macro M, which has the parameter P and sets this variable, and a call of it.
+fn macro_and_call(
+    alloc: Global,
+    is_quoted: bool,
+    changed: &[u8],
+    argument: Argument,
+) -> Option<Vec<Statement>> {
     let mut parameters = Items::new(alloc);
     parameters
         .push(Parameter {
             name: variable(b"P")?.name,
-            quoted: false,
+            quoted: is_quoted,
         })
         .ok()?;
     let mut said = alone(alloc, Form::Macro(variable(b"M")?.name, parameters))?;
+    let value = Expr::leaf(Term::Number(Literal::Int(1)));
     said.push(Statement {
         line: 2,
+        form: Form::Assignment(variable(changed)?, value),
+    })
+    .ok()?;
+    said.push(Statement {
+        line: 3,
         form: Form::MacroEnd,
     })
     .ok()?;
-    said.push(call(alloc)?).ok()?;
+    said.push(call(alloc, argument)?).ok()?;
     Some(said)
 }
 
-// Whether a call of a macro above stands.
-fn call_stands(alloc: Global) -> Option<bool> {
-    of_last(alloc, "", macro_and_call(alloc)?, |form| {
-        matches!(form, Form::Call(_, _))
-    })
+// Whether such a call stands.
+fn call_stands(alloc: Global, is_quoted: bool, changed: &[u8], argument: Argument) -> Option<bool> {
+    let said = macro_and_call(alloc, is_quoted, changed, argument)?;
+    of_last(alloc, "", said, |form| matches!(form, Form::Call(_, _)))
+}
+
+// Whether all is lost by it.
+fn call_loses_all(
+    alloc: Global,
+    is_quoted: bool,
+    changed: &[u8],
+    argument: Argument,
+) -> Option<bool> {
+    let said = macro_and_call(alloc, is_quoted, changed, argument)?;
+    of_last(alloc, "", said, |form| says(form, Event::All))
+}
+
+// Whether calls stand whose arguments are what the macro wants.
+fn calls_stand(alloc: Global) -> Option<bool> {
+    Some(
+        call_stands(alloc, false, b"V", argument(b"DEPTH")?)?
+            && call_stands(alloc, false, b"V", number())?
+            && call_stands(alloc, true, b"V", quoted(b"A")?)?,
+    )
 }
 
 #[test]
 fn a_call_of_a_macro_above_stands(rt: HostRuntime) {
-    assert!(rt; call_stands(rt.alloc()) == Some(true));
+    assert!(rt; calls_stand(rt.alloc()) == Some(true));
+}
+
+// Whether all is lost by calls with a name for a value, a value for a name, and a value for a variable that the macro sets.
+fn calls_lose_all(alloc: Global) -> Option<bool> {
+    Some(
+        call_loses_all(alloc, false, b"V", quoted(b"A")?)?
+            && call_loses_all(alloc, true, b"V", number())?
+            && call_loses_all(alloc, false, b"P", number())?,
+    )
+}
+
+#[test]
+fn a_call_that_its_macro_does_not_fit_loses_all(rt: HostRuntime) {
+    assert!(rt; calls_lose_all(rt.alloc()) == Some(true));
 }
 
 // Whether all is lost by a call of a macro that stands nowhere.
-fn call_loses_all(alloc: Global) -> Option<bool> {
-    let said = alone(alloc, call(alloc)?.form)?;
+fn no_macro_loses_all(alloc: Global) -> Option<bool> {
+    let said = alone(alloc, call(alloc, number())?.form)?;
     of_last(alloc, "", said, |form| says(form, Event::All))
 }
 
 #[test]
 fn a_call_of_no_macro_loses_all(rt: HostRuntime) {
-    assert!(rt; call_loses_all(rt.alloc()) == Some(true));
+    assert!(rt; no_macro_loses_all(rt.alloc()) == Some(true));
 }
 
 // Whether it isn't known in a text how a test goes.

@@ -8,7 +8,7 @@ use Rattle.vcm_forms.specs.declared.statement.Form.{Form}
 use Rattle.vcm_forms.specs.declared.statement.Form.TheVariants.{Assignment}
 use Rattle.vcm_forms.specs.Statements.{as_read}
 use Rattle.vcm_events.specs.declared.event.Event.{Event}
-use Rattle.vcm_events.specs.declared.event.Event.TheVariants.{Mode, OwnPoints, Table, Scanning, Unit, Approach, Search, Retract, Clearance, Compensation, Qualification, Target, Place, Untried, UntriedPoint, Values, Features, Frames, Frame, Saving, Machine, Points, Sensor, Angle, Plane, Polar, PolarMotion, PolarPoint, Ends, All}
+use Rattle.vcm_events.specs.declared.event.Event.TheVariants.{Mode, OwnPoints, Table, Scanning, Unit, Approach, Search, Retract, Clearance, Compensation, Qualification, Target, Place, Untried, UntriedPoint, Values, Features, Frames, Frame, Saving, Machine, Points, Sensor, Angle, Plane, Polar, PolarMotion, PolarPoint, Bind, Origins, Origin, CaseValue, CaseBegins, Ends, All}
 
 -- the names of the variables of events: no text can write them, since a variable of a text begins with a letter
 abbrev pub event_name : Event → List ℕ
@@ -40,6 +40,11 @@ event_name Plane = codes "0PLANE"
 event_name Polar = codes "0POLAR"
 event_name PolarMotion = codes "0POLARMOTION"
 event_name PolarPoint = codes "0POLARPOINT"
+event_name Bind = codes "0BIND"
+event_name Origins = codes "0ORIGINS"
+event_name Origin = codes "0ORIGIN"
+event_name CaseValue = codes "0CASEVALUE"
+event_name CaseBegins = codes "0CASEBEGINS"
 event_name Ends = codes "0ENDS"
 event_name All = codes "0ALL"
 
@@ -74,6 +79,11 @@ event_named name = look_up
     ∷ (codes "0POLAR", Polar)
     ∷ (codes "0POLARMOTION", PolarMotion)
     ∷ (codes "0POLARPOINT", PolarPoint)
+    ∷ (codes "0BIND", Bind)
+    ∷ (codes "0ORIGINS", Origins)
+    ∷ (codes "0ORIGIN", Origin)
+    ∷ (codes "0CASEVALUE", CaseValue)
+    ∷ (codes "0CASEBEGINS", CaseBegins)
     ∷ (codes "0ENDS", Ends)
     ∷ (codes "0ALL", All)
     ∷ []) name

@@ -1,4 +1,5 @@
 pub mod Events
+pub mod Datums
 pub mod Joined
 pub mod Spots
 pub mod Unknown

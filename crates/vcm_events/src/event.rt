@@ -69,6 +69,16 @@ pub enum Event {
     PolarMotion,
     /// The end of such statements; elsewhere a point isn't tried.
     PolarPoint,
+    /// A datum is defined as a feature: said as an OBTAIN of it.
+    Bind,
+    /// A frame is made by its origins, which the statements up to the next frame give.
+    Origins,
+    /// An origin of a frame lies on a feature: said as an OBTAIN of its coordinate.
+    Origin,
+    /// One more value of a CASE.
+    CaseValue,
+    /// The block of a CASE begins, behind its values.
+    CaseBegins,
     /// A jump to a label that stands nowhere: it isn't known how the program goes on.
     Ends,
     /// Everything.
@@ -109,6 +119,11 @@ impl Event {
             Event::Polar => b"0POLAR",
             Event::PolarMotion => b"0POLARMOTION",
             Event::PolarPoint => b"0POLARPOINT",
+            Event::Bind => b"0BIND",
+            Event::Origins => b"0ORIGINS",
+            Event::Origin => b"0ORIGIN",
+            Event::CaseValue => b"0CASEVALUE",
+            Event::CaseBegins => b"0CASEBEGINS",
             Event::Ends => b"0ENDS",
             Event::All => b"0ALL",
         }
@@ -148,6 +163,11 @@ impl Event {
                 (b"0POLAR", Event::Polar),
                 (b"0POLARMOTION", Event::PolarMotion),
                 (b"0POLARPOINT", Event::PolarPoint),
+                (b"0BIND", Event::Bind),
+                (b"0ORIGINS", Event::Origins),
+                (b"0ORIGIN", Event::Origin),
+                (b"0CASEVALUE", Event::CaseValue),
+                (b"0CASEBEGINS", Event::CaseBegins),
                 (b"0ENDS", Event::Ends),
                 (b"0ALL", Event::All),
             ],

@@ -6,7 +6,7 @@ use Rattle.vcm_lines.specs.declared.logical.Logical.{Logical}
 use Rattle.vcm_lines.specs.Lexemes.{Lexeme, lexemes}
 use Rattle.vcm_heads.specs.Heads.{found_or, major_of, behind_of, first_field, is_label}
 use Rattle.vcm_heads.specs.declared.rows.Row.{Row}
-use Rattle.vcm_heads.specs.declared.rows.Row.TheVariants.{Shape, Value, Motion, Aim, Target, Touch, Scan, Text, Test, Loop, Choice, Call, Stated, Output, Feature, Measure, MeasureEnd, Qualification, Settings, Frame, Fit, Recall, Save, Delete, Mode, Units, Scanning, Table, Compensation, Sensor, Plane, From, Values, Features, Silent, Other}
+use Rattle.vcm_heads.specs.declared.rows.Row.TheVariants.{Shape, Case, Datum, Value, Motion, Aim, Target, Touch, Scan, Text, Test, Loop, Choice, Call, Stated, Output, Feature, Measure, MeasureEnd, Qualification, Settings, Frame, Fit, Recall, Save, Delete, Mode, Units, Scanning, Table, Compensation, Sensor, Plane, From, Values, Features, Silent, Other}
 
 -- the words of statements, each with what becomes of them
 abbrev pub rows : List (List ℕ × Row)
@@ -14,9 +14,9 @@ rows =
     (codes "ELSE", Shape)
     ∷ (codes "ENDIF", Shape)
     ∷ (codes "ENDDO", Shape)
-    ∷ (codes "CASE", Shape)
+    ∷ (codes "CASE", Case)
     ∷ (codes "ENDCAS", Shape)
-    ∷ (codes "DFTCAS", Shape)
+    ∷ (codes "DFTCAS", Case)
     ∷ (codes "ENDSEL", Shape)
     ∷ (codes "JUMPTO", Shape)
     ∷ (codes "MACRO", Shape)
@@ -68,7 +68,7 @@ rows =
     ∷ (codes "GROUP", Features)
     ∷ (codes "DMISMN", Silent)
     ∷ (codes "GOTARG", Aim)
-    ∷ (codes "DATDEF", Silent)
+    ∷ (codes "DATDEF", Datum)
     ∷ (codes "FEDRAT", Silent)
     ∷ (codes "ACLRAT", Silent)
     ∷ (codes "FINPOS", Silent)

@@ -13,6 +13,10 @@ use vcm_num::{is, look_up};
 pub enum Row {
     /// A word that shapes the program: blocks, labels, jumps, macros, the end.
     Shape,
+    /// CASE and DFTCAS.
+    Case,
+    /// DATDEF.
+    Datum,
     /// A value for a variable.
     Value,
     /// A motion.
@@ -90,9 +94,9 @@ const ROWS: &[(&[u8], Row)] = &[
     (b"ELSE", Row::Shape),
     (b"ENDIF", Row::Shape),
     (b"ENDDO", Row::Shape),
-    (b"CASE", Row::Shape),
+    (b"CASE", Row::Case),
     (b"ENDCAS", Row::Shape),
-    (b"DFTCAS", Row::Shape),
+    (b"DFTCAS", Row::Case),
     (b"ENDSEL", Row::Shape),
     (b"JUMPTO", Row::Shape),
     (b"MACRO", Row::Shape),
@@ -144,7 +148,7 @@ const ROWS: &[(&[u8], Row)] = &[
     (b"GROUP", Row::Features),
     (b"DMISMN", Row::Silent),
     (b"GOTARG", Row::Aim),
-    (b"DATDEF", Row::Silent),
+    (b"DATDEF", Row::Datum),
     (b"FEDRAT", Row::Silent),
     (b"ACLRAT", Row::Silent),
     (b"FINPOS", Row::Silent),

@@ -1,1 +1,3 @@
 pub mod Slanted
+pub mod OnLines
+pub mod LinesKept

@@ -108,6 +108,11 @@ event_effects events.Plane = may_plane
 event_effects events.Polar = no_effects
 event_effects events.PolarMotion = may_move
 event_effects events.PolarPoint = may_measure
+event_effects events.Bind = no_effects
+event_effects events.Origins = no_effects
+event_effects events.Origin = no_effects
+event_effects events.CaseValue = no_effects
+event_effects events.CaseBegins = no_effects
 event_effects events.Ends = record no_effects { leaves = true }
 event_effects events.All = record no_effects { all = true }
 

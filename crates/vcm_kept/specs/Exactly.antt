@@ -23,6 +23,7 @@ use Rattle.vcm_events.specs.Unknown.{unknown}
 use Rattle.vcm_events.specs.declared.spots.Spot.{Spot}
 use Rattle.vcm_events.specs.declared.spots.Spot.TheVariants as spots
 use Rattle.vcm_events.specs.Spots.{spot_named}
+use Rattle.vcm_events.specs.Datums.{is_origin}
 use Rattle.vcm_templates.specs.Besides.{carries_bounds}
 use Rattle.vcm_templates.specs.Exact.{exact_at, is_quotient, kind_in}
 
@@ -125,9 +126,9 @@ exact_spot vs p (Some spots.Step) = exact_steps vs p
 exact_spot vs p (Some spots.Back) = exact_steps vs p
 exact_spot vs p s = exact_place vs p
 
--- a shift
+-- a shift; one to an origin stays
 abbrev pub exact_shift : List Variable → Offset → Offset
-exact_shift vs o = record { axis = o.axis; length = exact_length vs o.length }
+exact_shift vs o = if is_origin o.length then o else record { axis = o.axis; length = exact_length vs o.length }
 
 -- an increment, if there is one
 abbrev pub exact_increment : List Variable → Option Source → Option Source

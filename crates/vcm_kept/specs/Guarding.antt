@@ -1,5 +1,5 @@
 -- What each statement of an expanded text is put as, behind those above it.
-use Rattle.std.specs.Prelude.{ℕ, ℤ, pos, negsuc, codes, Bool, true, false, ◌&&◌, not, nat_lt, nat_eq, if◌then◌else◌, List, [], ◌∷◌, ◌++◌, length, slice_get, map, Option, Some, None, is_some, Result, Ok, Err}
+use Rattle.std.specs.Prelude.{ℕ, ℤ, pos, negsuc, codes, Bool, true, false, ◌&&◌, ◌||◌, not, nat_lt, nat_eq, if◌then◌else◌, List, [], ◌∷◌, ◌++◌, length, slice_get, map, Option, Some, None, is_some, Result, Ok, Err}
 use Rattle.std.specs.List.{flat_map, list_all, list_any}
 use Rattle.std.specs.Str.{bytes_eq}
 use Rattle.vcm_num.specs.declared.number.Kind.{Kind}
@@ -44,12 +44,16 @@ use Rattle.vcm_events.specs.declared.event.Event.{Event}
 use Rattle.vcm_events.specs.declared.event.Event.TheVariants as events
 use Rattle.vcm_templates.specs.declared.guarded.Guarded.{Guarded}
 use Rattle.vcm_kept.specs.declared.text.Text.{Text}
+use Rattle.vcm_kept.specs.declared.events.Around.{Around}
 use Rattle.vcm_events.specs.declared.spots.Spot.{Spot}
 use Rattle.vcm_events.specs.declared.spots.Spot.TheVariants as spots
 use Rattle.vcm_events.specs.Spots.{spot_named, slanted_name}
 use Rattle.vcm_templates.specs.declared.lengths.Kept.TheVariants as kept
 use Rattle.vcm_kept.specs.declared.effects.Effects.{Effects}
 use Rattle.vcm_kept.specs.Exactly.{want_of, exact_form, is_cut_placed}
+use Rattle.vcm_kept.specs.Choices.{next_depth, inner_depth, chooses_known, chooses_nothing, choice_end, cases, defaults, adds_value, begins_case, case_ends, declares_choices}
+use Rattle.vcm_kept.specs.Datums.{binds, unbinds, declares_bound_at, keeps_axes, recalls_axes, straightens, turns_axes, declares_axes, begins_origins, originates, shift_of, frame_asks, declares_datums}
+use Rattle.vcm_events.specs.Datums.{are_origins}
 use Rattle.vcm_kept.specs.Effects.{no_effects, either_effects, effects_of, set_by, lose_block}
 use Rattle.vcm_remarks.specs.declared.remark.Remark.TheVariants.{NotReported, AnotherTip}
 use Rattle.vcm_kept.specs.Places.{has_place, asks_place, motion_asks, length_asks, point_asks, approach_asks, asks_point, moves, homes, keeps, loses_track, reaches_target, steps_by, approaches, slants, keeps_setting, declares_kept, declares_slanted}
@@ -210,9 +214,9 @@ abbrev pub machine_name : List ℕ
 machine_name = codes "________________"
 
 -- the current frame is the machine's
-unfoldable pub recalls_machine : Bool → ℕ → List Guarded
-recalls_machine true line = stands line 0 (form.Restore machine_name) ∷ new_frame line
-recalls_machine false line = lose_frame line ∷ []
+unfoldable pub recalls_machine : (machine datums : Bool) → ℕ → List Guarded
+recalls_machine true datums line = stands line 0 (form.Restore machine_name) ∷ (new_frame line ++ straightens datums line)
+recalls_machine false datums line = lose_frame line ∷ []
 
 -- what polar places hang on: angles in decimal degrees, and the plane of X and Y
 unfoldable pub polar_asks : Source
@@ -223,43 +227,58 @@ abbrev pub turns_polar : Bool → ℕ → Carried → Bool → List Guarded
 turns_polar true line c nothing = turns_state line c causes.Value nothing
 turns_polar false line c nothing = []
 
+-- one value more of a CASE, if it is one
+abbrev pub adds_number : ℕ → ℕ → Option Term → List Guarded
+adds_number line i None = []
+adds_number line i (Some t) = adds_value line i t
+
+-- the block of a CASE begins, in a text where one has several values
+abbrev pub begins_block : Bool → ℕ → ℕ → List Guarded
+begins_block true line i = begins_case line i
+begins_block false line i = []
+
 -- what an event does
-abbrev pub happens : Text → ℕ → ℕ → List Variable → Event → Source → List Guarded
-happens text line e vs events.Mode v = turns_machine line carried.Mode causes.Mode (is_nothing (leaf_in v))
-happens text line e vs events.Table v = turns_machine line carried.Table causes.Table (is_nothing (leaf_in v))
-happens text line e vs events.Scanning v = turns_machine line carried.Scanning causes.Scanning (is_nothing (leaf_in v))
-happens text line e vs events.Unit v = turns_state line carried.Unit causes.Unit (is_nothing (leaf_in v))
-happens text line e vs events.OwnPoints v = turns_state line carried.OwnPoints causes.Mode (is_nothing (leaf_in v))
-happens text line e vs events.Approach v = turns_state line carried.Approach causes.Setting (is_nothing (leaf_in v))
-happens text line e vs events.Search v = turns_state line carried.Search causes.Setting (is_nothing (leaf_in v))
-happens text line e vs events.Retract v = turns_state line carried.Retract causes.Setting (is_nothing (leaf_in v))
-happens text line e vs events.Clearance v = turns_state line carried.Clearance causes.Setting (is_nothing (leaf_in v))
-happens text line e vs events.Compensation v = turns_state line carried.Compensation causes.Setting (is_nothing (leaf_in v))
-happens text line e vs events.Qualification v = turns_state line carried.Qualification causes.Setting (is_nothing (leaf_in v))
-happens text line e vs events.Target v = reaches_target text.spots text.steps line
-happens text line e vs events.Place v = set line carried.Place (Plain (number (pos 0))) ∷ []
-happens text line e vs events.Untried v = untried line ∷ []
-happens text line e vs events.UntriedPoint v = untried_point line
-happens text line e vs events.Values v = raise line carried.Values (pos 1) ∷ []
-happens text line e vs events.Features v = raise line carried.Features FEATURES_STEP ∷ []
-happens text line e vs events.Frames v = set line carried.Floor (Plain (carried_term carried.Latest)) ∷ []
-happens text line e vs events.Frame v = lose_frame line ∷ []
-happens text line e vs events.Saving v = set line carried.Saving (Plain (number (pos 0))) ∷ []
-happens text line e vs events.Machine v = recalls_machine text.machine line
-happens text line e vs events.Points v = wants_points line vs v
-happens text line e vs events.Sensor v = selects_by line e (leaf_in v)
-happens text line e vs events.Angle v = turns_polar text.polar line carried.Angle (is_nothing (leaf_in v))
-happens text line e vs events.Plane v = turns_polar text.polar line carried.Plane (is_nothing (leaf_in v))
-happens text line e vs events.Polar v = stands line 0 (form.Test polar_asks) ∷ []
-happens text line e vs events.PolarMotion v = elsewhere line ∷ untried line ∷ ends line ∷ []
-happens text line e vs events.PolarPoint v = elsewhere line ∷ (untried_point line ++ ends line ∷ [])
-happens text line e vs events.Ends v = to_the_end line ∷ []
-happens text line e vs events.All v = untried line ∷ lose_all line
+abbrev pub happens : Text → Around → ℕ → ℕ → List Variable → Event → Source → List Guarded
+happens text around line e vs events.Mode v = turns_machine line carried.Mode causes.Mode (is_nothing (leaf_in v))
+happens text around line e vs events.Table v = turns_machine line carried.Table causes.Table (is_nothing (leaf_in v))
+happens text around line e vs events.Scanning v = turns_machine line carried.Scanning causes.Scanning (is_nothing (leaf_in v))
+happens text around line e vs events.Unit v = turns_state line carried.Unit causes.Unit (is_nothing (leaf_in v))
+happens text around line e vs events.OwnPoints v = turns_state line carried.OwnPoints causes.Mode (is_nothing (leaf_in v))
+happens text around line e vs events.Approach v = turns_state line carried.Approach causes.Setting (is_nothing (leaf_in v))
+happens text around line e vs events.Search v = turns_state line carried.Search causes.Setting (is_nothing (leaf_in v))
+happens text around line e vs events.Retract v = turns_state line carried.Retract causes.Setting (is_nothing (leaf_in v))
+happens text around line e vs events.Clearance v = turns_state line carried.Clearance causes.Setting (is_nothing (leaf_in v))
+happens text around line e vs events.Compensation v = turns_state line carried.Compensation causes.Setting (is_nothing (leaf_in v))
+happens text around line e vs events.Qualification v = turns_state line carried.Qualification causes.Setting (is_nothing (leaf_in v))
+happens text around line e vs events.Target v = reaches_target text.spots text.steps around.measuring line
+happens text around line e vs events.Place v = set line carried.Place (Plain (number (pos 0))) ∷ []
+happens text around line e vs events.Untried v = untried line ∷ []
+happens text around line e vs events.UntriedPoint v = untried_point line
+happens text around line e vs events.Values v = raise line carried.Values (pos 1) ∷ []
+happens text around line e vs events.Features v = raise line carried.Features FEATURES_STEP ∷ []
+happens text around line e vs events.Frames v = set line carried.Floor (Plain (carried_term carried.Latest)) ∷ []
+happens text around line e vs events.Frame v = lose_frame line ∷ []
+happens text around line e vs events.Saving v = set line carried.Saving (Plain (number (pos 0))) ∷ []
+happens text around line e vs events.Machine v = recalls_machine text.machine text.datums line
+happens text around line e vs events.Points v = wants_points line vs v
+happens text around line e vs events.Sensor v = selects_by line e (leaf_in v)
+happens text around line e vs events.Angle v = turns_polar text.polar line carried.Angle (is_nothing (leaf_in v))
+happens text around line e vs events.Plane v = turns_polar text.polar line carried.Plane (is_nothing (leaf_in v))
+happens text around line e vs events.Polar v = stands line 0 (form.Test polar_asks) ∷ []
+happens text around line e vs events.PolarMotion v = elsewhere line ∷ untried line ∷ ends line ∷ []
+happens text around line e vs events.PolarPoint v = elsewhere line ∷ (untried_point line ++ ends line ∷ [])
+happens text around line e vs events.Bind v = []
+happens text around line e vs events.Origins v = begins_origins text.datums line
+happens text around line e vs events.Origin v = []
+happens text around line e vs events.CaseValue v = adds_number line around.depth (leaf_in v)
+happens text around line e vs events.CaseBegins v = begins_block text.several line around.depth
+happens text around line e vs events.Ends v = to_the_end line ∷ []
+happens text around line e vs events.All v = untried line ∷ lose_all line
 
 -- an assignment: an event, or one to a variable of the text
-abbrev pub assigns_or : Text → ℕ → ℕ → List Variable → Target → Source → Option Event → List Guarded
-assigns_or text line e vs t value None = assigned line e vs t value
-assigns_or text line e vs t value (Some event) = happens text line e vs event value
+abbrev pub assigns_or : Text → Around → ℕ → ℕ → List Variable → Target → Source → Option Event → List Guarded
+assigns_or text around line e vs t value None = assigned line e vs t value
+assigns_or text around line e vs t value (Some event) = happens text around line e vs event value
 
 -- ---- points
 
@@ -328,11 +347,11 @@ abbrev pub touched_here : Source
 touched_here = both touched_once (pair (Compare Equal) (carried_term carried.Touched) (carried_term carried.Frame))
 
 -- the feature at an index was measured by a single point, in the frame that is the current one still, or it has no value that is known
-unfoldable pub keeps_point : ℕ → Option ℕ → List Guarded
-keeps_point line None = []
-keeps_point line (Some i) =
+unfoldable pub keeps_point : Bool → ℕ → Option ℕ → List Guarded
+keeps_point datums line None = []
+keeps_point datums line (Some i) =
     stands line 0 (form.Test touched_here)
-    ∷ set_item line items.Measured i in_frame ∷ elsewhere line ∷ set_item line items.Measured i (Plain (number (pos 0))) ∷ ends line ∷ []
+    ∷ set_item line items.Measured i in_frame ∷ elsewhere line ∷ set_item line items.Measured i (Plain (number (pos 0))) ∷ ends line ∷ unbinds datums line i
 
 -- the index of the feature that is measured, if it is declared
 abbrev pub measured_index : List (List ℕ) → Option (List ℕ) → Option ℕ
@@ -351,9 +370,9 @@ leaves_points line =
     stands line 0 (form.Test (pair (Compare NotEqual) (carried_term carried.Clearance) (carried_term carried.Epoch))) ∷ untried line ∷ ends line ∷ []
 
 -- ENDMES
-abbrev pub measured : ℕ → List (List ℕ) → Option (List ℕ) → List Guarded
-measured line fs l =
-    counts_points line l ++ (keeps_point line (measured_index fs l) ++ (leaves_points line
+abbrev pub measured : Bool → ℕ → List (List ℕ) → Option (List ℕ) → List Guarded
+measured datums line fs l =
+    counts_points line l ++ (keeps_point datums line (measured_index fs l) ++ (leaves_points line
     ++ know line carried.Qualification ∷ set line carried.Wanted (Plain (number (pos 0))) ∷ []))
 
 -- behind a FEAT its nominal is known in this frame, elsewhere it isn't
@@ -390,9 +409,10 @@ declares_direction true line i = declare_item line items.AlongX i ∷ declare_it
 declares_direction false line i = []
 
 -- what is carried of a feature is declared with it
-abbrev pub declares_feature : Bool → ℕ → ℕ → Option ℕ → List Guarded
-declares_feature pointed line i None = declare_item line items.Measured i ∷ declare_item line items.Nominal i ∷ declares_direction pointed line i
-declares_feature pointed line i (Some j) = []
+abbrev pub declares_feature : (pointed datums : Bool) → ℕ → ℕ → Option ℕ → List Guarded
+declares_feature pointed datums line i None =
+    declare_item line items.Measured i ∷ declare_item line items.Nominal i ∷ (declares_direction pointed line i ++ declares_bound_at datums line i)
+declares_feature pointed datums line i (Some j) = []
 
 -- a feature that isn't known by its FEAT, nor is its value
 abbrev pub feature_gone : ℕ → Option ℕ → List Guarded
@@ -400,14 +420,14 @@ feature_gone line None = []
 feature_gone line (Some i) = set_item line items.Nominal i (Plain (number (pos 0))) ∷ set_item line items.Measured i (Plain (number (pos 0))) ∷ []
 
 -- a feature with room in the table; without room its FEAT is refused
-abbrev pub features_in : Bool → ℕ → ℕ → List Variable → List (List ℕ) → List ℕ → Coordinates → Axis → Result ℕ FaultCode → List Guarded
-features_in pointed line e vs fs l p d (Ok i) = declares_feature pointed line i (index_of fs l) ++ features_at pointed line e vs l p d i
-features_in pointed line e vs fs l p d (Err c) = stands line e (form.Feature l p d) ∷ []
+abbrev pub features_in : (pointed datums : Bool) → ℕ → ℕ → List Variable → List (List ℕ) → List ℕ → Coordinates → Axis → Result ℕ FaultCode → List Guarded
+features_in pointed datums line e vs fs l p d (Ok i) = declares_feature pointed datums line i (index_of fs l) ++ features_at pointed line e vs l p d i
+features_in pointed datums line e vs fs l p d (Err c) = stands line e (form.Feature l p d) ∷ []
 
 -- FEAT
-abbrev pub features : Bool → ℕ → ℕ → List Variable → List (List ℕ) → List ℕ → Coordinates → Axis → List Guarded
-features pointed line e vs fs l p d =
-    if has_place vs p then features_in pointed line e vs fs l p d (entered fs l) else feature_gone line (index_of fs l)
+abbrev pub features : (pointed datums : Bool) → ℕ → ℕ → List Variable → List (List ℕ) → List ℕ → Coordinates → Axis → List Guarded
+features pointed datums line e vs fs l p d =
+    if has_place vs p then features_in pointed datums line e vs fs l p d (entered fs l) else feature_gone line (index_of fs l)
 
 -- names with one more, if there is room
 abbrev pub with_known : List (List ℕ) → List ℕ → List (List ℕ)
@@ -435,13 +455,13 @@ configures slanted line e vs which value =
     else lose line (carried_setting which) causes.Setting ∷ []
 
 -- what is carried of a frame is declared with it
-abbrev pub declares_frame : ℕ → ℕ → Option ℕ → List Guarded
-declares_frame line i None = declare_item line items.Saved i ∷ []
-declares_frame line i (Some j) = []
+abbrev pub declares_frame : Bool → ℕ → ℕ → Option ℕ → List Guarded
+declares_frame datums line i None = declare_item line items.Saved i ∷ declares_axes datums line i
+declares_frame datums line i (Some j) = []
 
 -- behind a frame that is made it is a new one, elsewhere it isn't known
-unfoldable pub made_where : ℕ → ℕ → List Guarded
-made_where line i = saves_frame line i ++ elsewhere line ∷ (frame_gone line (Some i) ++ ends line ∷ [])
+unfoldable pub made_where : Bool → ℕ → ℕ → List Guarded
+made_where datums line i = saves_frame line i ++ (keeps_axes datums line i ++ elsewhere line ∷ (frame_gone line (Some i) ++ ends line ∷ []))
 
 -- what was found, if it was
 abbrev pub found_in : Result ℕ FaultCode → Option ℕ
@@ -462,19 +482,29 @@ abbrev pub asks_shifts : ℕ → List Variable → Offset → List Guarded
 asks_shifts line vs o = asks_all line vs o.length
 
 -- TRANS at the index of its frame; without room in the table it is refused
-abbrev pub shifts_at : ℕ → ℕ → List Variable → List ℕ → List Offset → Option ℕ → Option ℕ → List Guarded
-shifts_at line e vs l os was None = stands line e (form.Shift l os) ∷ []
-shifts_at line e vs l os was (Some i) =
-    declares_frame line i was ++ asks line length_asks
-    ∷ (flat_map (asks_shifts line vs) os ++ where_known line ∷ stands line e (form.Shift l os) ∷ made_where line i)
+abbrev pub shifts_at : Bool → ℕ → ℕ → List Variable → List ℕ → List Offset → Option ℕ → Option ℕ → List Guarded
+shifts_at datums line e vs l os was None = stands line e (form.Shift l os) ∷ []
+shifts_at datums line e vs l os was (Some i) =
+    declares_frame datums line i was ++ asks line length_asks
+    ∷ (flat_map (asks_shifts line vs) os ++ where_known line ∷ stands line e (form.Shift l os) ∷ made_where datums line i)
 
 -- TRANS whose shifts have forms
-abbrev pub shifts_in : ℕ → ℕ → List Variable → List (List ℕ) → List ℕ → List Offset → List Guarded
-shifts_in line e vs ds l os = shifts_at line e vs l os (index_of ds l) (found_in (entered ds l))
+abbrev pub shifts_in : Bool → ℕ → ℕ → List Variable → List (List ℕ) → List ℕ → List Offset → List Guarded
+shifts_in datums line e vs ds l os = shifts_at datums line e vs l os (index_of ds l) (found_in (entered ds l))
 
 -- TRANS
-abbrev pub shifts : ℕ → ℕ → List Variable → List (List ℕ) → List ℕ → List Offset → List Guarded
-shifts line e vs ds l os = if has_shifts vs os then shifts_in line e vs ds l os else frame_gone line (index_of ds l)
+abbrev pub shifts : Bool → ℕ → ℕ → List Variable → List (List ℕ) → List ℕ → List Offset → List Guarded
+shifts datums line e vs ds l os = if has_shifts vs os then shifts_in datums line e vs ds l os else frame_gone line (index_of ds l)
+
+-- a frame by its origins at its index; without room in the table it is refused
+abbrev pub origins_at : ℕ → ℕ → List ℕ → List Offset → Option ℕ → Option ℕ → List Guarded
+origins_at line e l os was None = stands line e (form.Shift l (map shift_of os)) ∷ []
+origins_at line e l os was (Some i) =
+    declares_frame true line i was ++ asks line frame_asks ∷ where_known line ∷ stands line e (form.Shift l (map shift_of os)) ∷ made_where true line i
+
+-- a frame by its origins
+abbrev pub origins_in : ℕ → ℕ → List (List ℕ) → List ℕ → List Offset → List Guarded
+origins_in line e ds l os = origins_at line e l os (index_of ds l) (found_in (entered ds l))
 
 -- what has to be known for a turn: also that angles are in decimal degrees, in a text that may have others
 abbrev pub turn_asks : Bool → Source
@@ -482,25 +512,27 @@ turn_asks true = both length_asks (is_current carried.Angle)
 turn_asks false = length_asks
 
 -- ROTATE at the index of its frame; without room in the table it is refused
-abbrev pub turns_at : Bool → ℕ → ℕ → List ℕ → FrameAxis → Quarters → Option ℕ → Option ℕ → List Guarded
-turns_at angles line e l axis n was None = stands line e (form.Rotation l axis n) ∷ []
-turns_at angles line e l axis n was (Some i) =
-    declares_frame line i was ++ asks line (turn_asks angles) ∷ where_known line ∷ stands line e (form.Rotation l axis n) ∷ made_where line i
+abbrev pub turns_at : (angles datums : Bool) → ℕ → ℕ → List ℕ → FrameAxis → Quarters → Option ℕ → Option ℕ → List Guarded
+turns_at angles datums line e l axis n was None = stands line e (form.Rotation l axis n) ∷ []
+turns_at angles datums line e l axis n was (Some i) =
+    declares_frame datums line i was ++ asks line (turn_asks angles) ∷ where_known line ∷ stands line e (form.Rotation l axis n)
+    ∷ (turns_axes datums line ++ made_where datums line i)
 
 -- ROTATE
-abbrev pub turns_in : Bool → ℕ → ℕ → List (List ℕ) → List ℕ → FrameAxis → Quarters → List Guarded
-turns_in angles line e ds l axis n = turns_at angles line e l axis n (index_of ds l) (found_in (entered ds l))
+abbrev pub turns_in : (angles datums : Bool) → ℕ → ℕ → List (List ℕ) → List ℕ → FrameAxis → Quarters → List Guarded
+turns_in angles datums line e ds l axis n = turns_at angles datums line e l axis n (index_of ds l) (found_in (entered ds l))
 
 -- behind a frame that is recalled it is the current one, elsewhere this isn't known
-unfoldable pub recalled_where : ℕ → ℕ → List Guarded
-recalled_where line i = set line carried.Frame (Plain (item_term items.Saved i)) ∷ elsewhere line ∷ lose_frame line ∷ ends line ∷ []
+unfoldable pub recalled_where : Bool → ℕ → ℕ → List Guarded
+recalled_where datums line i =
+    set line carried.Frame (Plain (item_term items.Saved i)) ∷ (recalls_axes datums line i ++ elsewhere line ∷ lose_frame line ∷ ends line ∷ [])
 
 -- RECALL of the frame at an index, where it is known
-abbrev pub recalls_at : ℕ → ℕ → List ℕ → Option ℕ → List Guarded
-recalls_at line e l None = lose_frame line ∷ []
-recalls_at line e l (Some i) =
+abbrev pub recalls_at : Bool → ℕ → ℕ → List ℕ → Option ℕ → List Guarded
+recalls_at datums line e l None = lose_frame line ∷ []
+recalls_at datums line e l (Some i) =
     stands line 0 (form.Test (pair (Compare Greater) (item_term items.Saved i) (carried_term carried.Floor)))
-    ∷ stands line e (form.Restore l) ∷ recalled_where line i
+    ∷ stands line e (form.Restore l) ∷ recalled_where datums line i
 
 -- ---- values of features
 
@@ -526,6 +558,12 @@ abbrev pub obtains_by : ℕ → ℕ → List Variable → List (List ℕ) → Ta
 obtains_by line e vs fs t side l word None = []
 obtains_by line e vs fs t side l word (Some i) = obtains_at line e vs t side l word i (slice_get (kinds_of vs) i) (index_of fs l)
 
+-- OBTAIN, or a statement about a datum
+abbrev pub queries : ℕ → ℕ → List Variable → List (List ℕ) → Target → Side → List ℕ → FeatureWord → Option Event → List Guarded
+queries line e vs fs t side l word (Some events.Bind) = binds line (index_of fs l)
+queries line e vs fs t side l word (Some events.Origin) = originates line e l word (index_of fs l)
+queries line e vs fs t side l word event = obtains_by line e vs fs t side l word (variable_of vs t.expansion t.name)
+
 -- an output line isn't written
 abbrev pub unreported : ℕ → Guarded
 unreported line = remarks line 0 (form.Assignment (carried_target carried.Asked) (truth false)) NotReported
@@ -539,8 +577,8 @@ reports_at line e side l (Some i) =
 -- ---- blocks
 
 -- a block that a line opens: that of a choice, or the body of a loop whose variable stands at an index; behind so many variables that were set
-abbrev pub block : ℕ → Option ℕ → List ℕ → OpenBlock
-block line index assigned = record { line = line; index = index; since = length assigned; effects = no_effects }
+abbrev pub block : ℕ → Option ℕ → ℕ → List ℕ → OpenBlock
+block line index depth assigned = record { line = line; index = index; depth = depth; since = length assigned; effects = no_effects }
 
 -- one more block is open; deeper ones are refused
 abbrev pub opened : OpenBlock → List OpenBlock → List OpenBlock
@@ -592,11 +630,11 @@ tests line e vs c =
     else unknown_asks line ++ stands line e (form.Test (truth false)) ∷ []
 
 -- SELECT
-abbrev pub chooses : ℕ → ℕ → List Variable → Source → List Guarded
-chooses line e vs c =
+abbrev pub chooses : Bool → ℕ → ℕ → ℕ → List Variable → Source → List Guarded
+chooses several line e i vs c =
     if has_form vs wants.Int c
-    then asks line (truth true) ∷ (asks_all line vs c ++ where_known line ∷ stands line e (form.Choose c) ∷ [])
-    else unknown_asks line ++ stands line e (form.Choose (Plain (number (pos 0)))) ∷ []
+    then asks line (truth true) ∷ (asks_all line vs c ++ where_known line ∷ chooses_known several line e i c)
+    else unknown_asks line ++ chooses_nothing several line e ∷ []
 
 -- an increment that has a form, or is left out
 abbrev pub has_increment : List Variable → Option Source → Bool
@@ -657,16 +695,16 @@ ending false line e = stands line e form.Ending ∷ []
 -- ---- each statement
 
 -- a place that is none to go to at once: it is kept, or a step
-abbrev pub spots_by : ℕ → List Variable → Coordinates → Spot → List Guarded
-spots_by line vs p spots.Home = keeps line vs kept.Home p ++ lose line carried.Home causes.Value ∷ []
-spots_by line vs p spots.Target = keeps line vs kept.Target p
-spots_by line vs p spots.Step = steps_by line vs Add p
-spots_by line vs p spots.Back = steps_by line vs Sub p
+abbrev pub spots_by : Bool → ℕ → List Variable → Coordinates → Spot → List Guarded
+spots_by measuring line vs p spots.Home = keeps line vs kept.Home p ++ lose line carried.Home causes.Value ∷ []
+spots_by measuring line vs p spots.Target = keeps line vs kept.Target p
+spots_by measuring line vs p spots.Step = steps_by measuring line vs Add p
+spots_by measuring line vs p spots.Back = steps_by measuring line vs Sub p
 
 -- FEAT, or such a place
 abbrev pub features_or : Text → Reached → ℕ → ℕ → List ℕ → Coordinates → Axis → Option Spot → List Guarded
-features_or text r line e l p d None = features text.pointed line e r.variables r.features l p d
-features_or text r line e l p d (Some s) = spots_by line r.variables p s
+features_or text r line e l p d None = features text.pointed text.datums line e r.variables r.features l p d
+features_or text r line e l p d (Some s) = spots_by (is_some r.measuring) line r.variables p s
 
 -- the direction of the feature at an index, as it is carried
 abbrev pub direction_in : ℕ → Coordinates
@@ -683,33 +721,45 @@ slants_or text line vs i (x ∷ y ∷ z ∷ []) =
     approaches_feature text.steps line vs (record { x = x.length; y = y.length; z = z.length }) i
 slants_or text line vs i os = slants text.slants text.steps line vs os
 
--- TRANS, or a point that is approached and left
+-- TRANS, or a frame by its origins
+abbrev pub frames_by : Bool → ℕ → ℕ → List Variable → List (List ℕ) → List ℕ → List Offset → Bool → List Guarded
+frames_by datums line e vs ds l os true = origins_in line e ds l os
+frames_by datums line e vs ds l os false = shifts datums line e vs ds l os
+
+-- a frame, or a point that is approached and left
 abbrev pub shifts_or : Text → Reached → ℕ → ℕ → List ℕ → List Offset → Bool → List Guarded
 shifts_or text r line e l os true = slants_or text line r.variables (measured_index r.features r.measuring) os
-shifts_or text r line e l os false = shifts line e r.variables r.frames l os
+shifts_or text r line e l os false = frames_by text.datums line e r.variables r.frames l os (are_origins os)
+
+-- where a statement stands
+abbrev pub around : Reached → Around
+around r = record { measuring = is_some r.measuring; depth = inner_depth r.blocks }
 
 -- what a statement is put as
 abbrev pub guards : Text → Reached → ℕ → ℕ → Form → List Guarded
 guards text r line e (form.Declaration k names) = declares_all line r.variables e k names ++ stands line e (form.Declaration k names) ∷ []
-guards text r line e (form.Assignment t value) = assigns_or text line e r.variables t value (event_named t.name)
-guards text r line e (form.Move p) = moves text.steps line e r.variables r.aiming p
-guards text r line e form.Home = homes text.from text.steps line e
+guards text r line e (form.Assignment t value) = assigns_or text (around r) line e r.variables t value (event_named t.name)
+guards text r line e (form.Move p) = moves text.steps line e r.variables r.aiming (is_some r.measuring) p
+guards text r line e form.Home = homes text.from text.steps (is_some r.measuring) line e
 guards text r line e (form.Test c) = tests line e r.variables c
 guards text r line e form.TestEnd = chooses_end line e form.TestEnd (first_block r.blocks) r.assigned
 guards text r line e (form.Repeat rounds) = repeats line e r.variables rounds (loops_by r.variables rounds)
 guards text r line e form.RepeatEnd = repeats_end line e (first_block r.blocks) r.assigned
-guards text r line e (form.Choose c) = chooses line e r.variables c
-guards text r line e form.ChooseEnd = chooses_end line e form.ChooseEnd (first_block r.blocks) r.assigned
+guards text r line e (form.Choose c) = chooses text.several line e (next_depth r.blocks) r.variables c
+guards text r line e form.ChooseEnd = chooses_end line e (choice_end text.several) (first_block r.blocks) r.assigned
 guards text r line e (form.Feature l p d) = features_or text r line e l p d (spot_named l)
 guards text r line e (form.Measure l) = measures line
 guards text r line e (form.Touch p d) = touches text.steps line e r.variables r.features p d r.measuring
-guards text r line e form.MeasureEnd = measured line r.features r.measuring
+guards text r line e form.MeasureEnd = measured text.datums line r.features r.measuring
 guards text r line e (form.Configure which value) = configures text.slants line e r.variables which value
 guards text r line e (form.Shift l os) = shifts_or text r line e l os (is_same_name slanted_name l)
-guards text r line e (form.Rotation l axis n) = turns_in text.polar line e r.frames l axis n
-guards text r line e (form.Restore l) = recalls_at line e l (index_of r.frames l)
-guards text r line e (form.Query t side l word) = obtains_by line e r.variables r.features t side l word (variable_of r.variables t.expansion t.name)
+guards text r line e (form.Rotation l axis n) = turns_in text.polar text.datums line e r.frames l axis n
+guards text r line e (form.Restore l) = recalls_at text.datums line e l (index_of r.frames l)
+guards text r line e (form.Query t side l word) = queries line e r.variables r.features t side l word (event_named t.name)
 guards text r line e (form.Report side l) = reports_at line e side l (index_of r.features l)
+guards text r line e (form.Case n) = cases text.several line e (inner_depth r.blocks) n
+guards text r line e form.Default = defaults text.several line e (inner_depth r.blocks)
+guards text r line e form.CaseEnd = case_ends text.several line e
 guards text r line e form.Ending = ending text.jumps line e
 guards text r line e f = stands line e f ∷ []
 
@@ -723,17 +773,21 @@ abbrev pub reaches_feature : Reached → List ℕ → Coordinates → Option Spo
 reaches_feature r l p None = if has_place r.variables p then record r { features = with_known r.features l } else r
 reaches_feature r l p (Some s) = reaches_spot r s
 
+-- whether a frame is made by these shifts
+abbrev pub makes_frame : List Variable → List Offset → Bool
+makes_frame vs os = are_origins os || has_shifts vs os
+
 -- and behind a TRANS, or a slanted point
 abbrev pub reaches_shift : Reached → List ℕ → List Offset → Bool → Reached
 reaches_shift r l os true = r
-reaches_shift r l os false = if has_shifts r.variables os then record r { frames = with_known r.frames l } else r
+reaches_shift r l os false = if makes_frame r.variables os then record r { frames = with_known r.frames l } else r
 
 -- what stands above behind a statement, beside what it may do
 abbrev pub reaches_form : Reached → ℕ → ℕ → Form → Reached
 reaches_form r line e (form.Declaration k names) = record r { variables = with_variables r.variables e k names }
-reaches_form r line e (form.Test c) = record r { blocks = opened (block line None r.assigned) r.blocks }
-reaches_form r line e (form.Choose c) = record r { blocks = opened (block line None r.assigned) r.blocks }
-reaches_form r line e (form.Repeat rounds) = record r { blocks = opened (block line (loops_by r.variables rounds) r.assigned) r.blocks }
+reaches_form r line e (form.Test c) = record r { blocks = opened (block line None (next_depth r.blocks) r.assigned) r.blocks }
+reaches_form r line e (form.Choose c) = record r { blocks = opened (block line None (next_depth r.blocks) r.assigned) r.blocks }
+reaches_form r line e (form.Repeat rounds) = record r { blocks = opened (block line (loops_by r.variables rounds) (next_depth r.blocks) r.assigned) r.blocks }
 reaches_form r line e form.TestEnd = record r { blocks = closed r.blocks }
 reaches_form r line e form.ChooseEnd = record r { blocks = closed r.blocks }
 reaches_form r line e form.RepeatEnd = record r { blocks = closed r.blocks }
@@ -851,8 +905,39 @@ is_polar f = false
 abbrev pub is_polar_placed : Placed → Bool
 is_polar_placed p = is_polar p.statement.form
 
+-- whether an event says one value more of a CASE
+abbrev pub is_value_event : Option Event → Bool
+is_value_event (Some events.CaseValue) = true
+is_value_event e = false
+
+-- whether a statement does
+abbrev pub is_several : Form → Bool
+is_several (form.Assignment t value) = is_value_event (event_named t.name)
+is_several f = false
+
+-- and so in its expansion
+abbrev pub is_several_placed : Placed → Bool
+is_several_placed p = is_several p.statement.form
+
+-- whether an event is about a datum
+abbrev pub is_datum_event : Option Event → Bool
+is_datum_event (Some events.Bind) = true
+is_datum_event (Some events.Origin) = true
+is_datum_event e = false
+
+-- whether a statement is
+abbrev pub is_dated : Form → Bool
+is_dated (form.Query t side l word) = is_datum_event (event_named t.name)
+is_dated (form.Shift l os) = are_origins os
+is_dated f = false
+
+-- and so in its expansion
+abbrev pub is_dated_placed : Placed → Bool
+is_dated_placed p = is_dated p.statement.form
+
 -- what holds of a text: whether it has jumps, whether the machine's frame has a name of its own, whether it has places that are kept or steps, a FROM, steps, points that
--- are approached and left, some of them along the directions of their features, polar places or angles in another unit, and whether values may be cut off
+-- are approached and left, some of them along the directions of their features, polar places or angles in another unit, datums, a CASE with several values, and
+-- whether values may be cut off
 abbrev pub text_of : List Placed → Text
 text_of ps = record {
   jumps = list_any is_jump_placed ps;
@@ -863,6 +948,8 @@ text_of ps = record {
   slants = list_any is_slanted_placed ps;
   pointed = list_any is_pointed_placed ps;
   polar = list_any is_polar_placed ps;
+  datums = list_any is_dated_placed ps;
+  several = list_any is_several_placed ps;
   cut = list_any is_cut_placed ps;
 }
 
@@ -899,8 +986,15 @@ unfoldable pub opens_polar : Bool → List Guarded
 opens_polar true = opens carried.Angle (pos 1) ∷ opens carried.Plane (pos 1) ∷ []
 opens_polar false = []
 
+-- what is carried of a text is declared
+unfoldable pub declares_first : Text → List Guarded
+declares_first text =
+    declares_carried ++ (declares_kept text.spots ++ (declares_slanted text.slants ++ (declares_datums text.datums ++ declares_choices text.several)))
+
+-- what is known at its start
+unfoldable pub opens_first : Text → List Guarded
+opens_first text = keeps_machine text.machine ++ (opening ++ opens_polar text.polar)
+
 -- what a text is put as
 abbrev pub guarded : List Placed → List Guarded
-guarded ps =
-    declares_carried ++ (declares_kept (text_of ps).spots ++ (declares_slanted (text_of ps).slants ++ (keeps_machine (text_of ps).machine
-    ++ (opening ++ (opens_polar (text_of ps).polar ++ guards_from (text_of ps) (begun_in (text_of ps).cut) ps)))))
+guarded ps = declares_first (text_of ps) ++ (opens_first (text_of ps) ++ guards_from (text_of ps) (begun_in (text_of ps).cut) ps)

@@ -1,7 +1,10 @@
 pub mod Places
 pub mod Effects
 pub mod Exactly
+pub mod Choices
+pub mod Datums
 pub mod Guarding
 pub mod inner
 pub mod Put
+pub mod Laws
 pub mod Samples

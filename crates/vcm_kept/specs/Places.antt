@@ -59,6 +59,11 @@ abbrev pub aimed : Bool → Source → Source
 aimed true e = both e (is_current carried.OwnPoints)
 aimed false e = e
 
+-- within a measurement the machine may go over a clearance surface first, where there is one
+abbrev pub within : Bool → Source → Source
+within true e = both e (is_current carried.Clearance)
+within false e = e
+
 -- what has to be known of a way to a place: this, and the variables of the place
 unfoldable pub asks_point : ℕ → List Variable → Source → Coordinates → List Guarded
 asks_point line vs known p = asks line known ∷ (asks_place line vs p ++ goes line)
@@ -106,32 +111,33 @@ goes_to steps line k known =
 -- ---- motions
 
 -- the way to a place whose lengths have forms
-unfoldable pub moves_known : Bool → ℕ → ℕ → List Variable → Bool → Coordinates → List Guarded
-moves_known steps line e vs aiming p =
-    asks_point line vs (aimed aiming motion_asks) p ++ stands line e (form.Move p) ∷ (tracks steps line p ++ gone line)
+unfoldable pub moves_known : Bool → ℕ → ℕ → List Variable → (aiming measuring : Bool) → Coordinates → List Guarded
+moves_known steps line e vs aiming measuring p =
+    asks_point line vs (within measuring (aimed aiming motion_asks)) p ++ stands line e (form.Move p) ∷ (tracks steps line p ++ gone line)
 
 -- GOTO
-abbrev pub moves : Bool → ℕ → ℕ → List Variable → Bool → Coordinates → List Guarded
-moves steps line e vs aiming p = if has_place vs p then moves_known steps line e vs aiming p else untried line ∷ []
+abbrev pub moves : Bool → ℕ → ℕ → List Variable → (aiming measuring : Bool) → Coordinates → List Guarded
+moves steps line e vs aiming measuring p = if has_place vs p then moves_known steps line e vs aiming measuring p else untried line ∷ []
 
 -- what has to be known for the way to the home of the part
 unfoldable pub home_asks : Source
 home_asks = are_current (carried.Mode ∷ carried.Table ∷ carried.Scanning ∷ carried.Home ∷ [])
 
 -- the way to the home of the part
-unfoldable pub goes_home : Bool → ℕ → ℕ → List Guarded
-goes_home steps line e = asks line home_asks ∷ (goes line ++ stands line e form.Home ∷ (loses_track steps line ++ gone line))
+unfoldable pub goes_home : (steps measuring : Bool) → ℕ → ℕ → List Guarded
+goes_home steps measuring line e = asks line (within measuring home_asks) ∷ (goes line ++ stands line e form.Home ∷ (loses_track steps line ++ gone line))
 
 -- GOHOME: behind a FROM it goes to its place, in the frame of that FROM
-abbrev pub homes : (from steps : Bool) → ℕ → ℕ → List Guarded
-homes false steps line e = goes_home steps line e
-homes true steps line e =
-    stands line 0 (form.Test (is_current carried.Home)) ∷ (goes_home steps line e ++ elsewhere line ∷ (goes_to steps line kept.Home motion_asks ++ ends line ∷ []))
+abbrev pub homes : (from steps measuring : Bool) → ℕ → ℕ → List Guarded
+homes false steps measuring line e = goes_home steps measuring line e
+homes true steps measuring line e =
+    stands line 0 (form.Test (is_current carried.Home)) ∷ (goes_home steps measuring line e
+    ++ elsewhere line ∷ (goes_to steps line kept.Home (within measuring motion_asks) ++ ends line ∷ []))
 
 -- ENDGO: the way to the target of GOTARG, if the text has one
-abbrev pub reaches_target : (spots steps : Bool) → ℕ → List Guarded
-reaches_target true steps line = goes_to steps line kept.Target (aimed true motion_asks)
-reaches_target false steps line = untried line ∷ []
+abbrev pub reaches_target : (spots steps measuring : Bool) → ℕ → List Guarded
+reaches_target true steps measuring line = goes_to steps line kept.Target (within measuring (aimed true motion_asks))
+reaches_target false steps measuring line = untried line ∷ []
 
 -- a place of three lengths, if there are
 abbrev pub step_at : (x y z : Option Source) → Option Coordinates
@@ -147,17 +153,17 @@ unfoldable pub step_asks : Source
 step_asks = both motion_asks (both (pair (Compare NotEqual) (carried_term carried.Place) (number (pos 0))) (is_kept_here kept.Probe))
 
 -- a step of these lengths to a place
-unfoldable pub steps_known : ℕ → List Variable → Coordinates → Coordinates → List Guarded
-steps_known line vs p q = asks_point line vs step_asks p ++ stands line 0 (form.Move q) ∷ (keeps_here line kept.Probe q ++ gone line)
+unfoldable pub steps_known : Bool → ℕ → List Variable → Coordinates → Coordinates → List Guarded
+steps_known measuring line vs p q = asks_point line vs (within measuring step_asks) p ++ stands line 0 (form.Move q) ∷ (keeps_here line kept.Probe q ++ gone line)
 
 -- a step to a place, if there is one
-abbrev pub steps_to : ℕ → List Variable → Coordinates → Option Coordinates → List Guarded
-steps_to line vs p None = untried line ∷ []
-steps_to line vs p (Some q) = steps_known line vs p q
+abbrev pub steps_to : Bool → ℕ → List Variable → Coordinates → Option Coordinates → List Guarded
+steps_to measuring line vs p None = untried line ∷ []
+steps_to measuring line vs p (Some q) = steps_known measuring line vs p q
 
 -- GOTO/INCR
-abbrev pub steps_by : ℕ → List Variable → BinaryOp → Coordinates → List Guarded
-steps_by line vs op p = if has_place vs p then steps_to line vs p (step_place op p) else untried line ∷ []
+abbrev pub steps_by : Bool → ℕ → List Variable → BinaryOp → Coordinates → List Guarded
+steps_by measuring line vs op p = if has_place vs p then steps_to measuring line vs p (step_place op p) else untried line ∷ []
 
 -- ---- points that are approached and left
 

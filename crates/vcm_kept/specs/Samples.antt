@@ -3,10 +3,11 @@ use Rattle.std.specs.Prelude.{◌≡◌, refl, ℕ, pos, true, false, List, [], 
 use Rattle.vcm_num.specs.declared.axis.Axis.TheVariants.{PlusZ}
 use Rattle.vcm_num.specs.declared.number.Kind.TheVariants as kinds
 use Rattle.vcm_num.specs.declared.number.Literal.TheVariants.{Int}
-use Rattle.vcm_spec.specs.declared.expression.BinaryOp.TheVariants.{Compare}
+use Rattle.vcm_spec.specs.declared.expression.BinaryOp.TheVariants.{Compare, Or}
 use Rattle.vcm_spec.specs.declared.expression.Relation.TheVariants.{Equal, NotEqual, Greater}
 use Rattle.vcm_spec.specs.declared.words.FrameAxis.TheVariants as axes
 use Rattle.vcm_spec.specs.declared.words.FeatureWord.TheVariants as words
+use Rattle.vcm_spec.specs.declared.words.Quarters.TheVariants as turns
 use Rattle.vcm_spec.specs.declared.words.Setting.TheVariants.{Approach}
 use Rattle.vcm_spec.specs.declared.words.Source.TheVariants.{Actual}
 use Rattle.vcm_expr.specs.declared.expression.Term.TheVariants.{Number, Variable as Named}
@@ -23,11 +24,13 @@ use Rattle.vcm_events.specs.Joined.{pair}
 use Rattle.vcm_events.specs.Unknown.{unknown, unknown_place, unknown_rounds}
 use Rattle.vcm_events.specs.declared.spots.Spot.TheVariants as spots
 use Rattle.vcm_events.specs.Spots.{spotted, slanted}
+use Rattle.vcm_events.specs.Datums.{bound, origin_on, origin_length}
 use Rattle.vcm_templates.specs.declared.guarded.Guarded.{Guarded}
 use Rattle.vcm_templates.specs.declared.carried.Carried.TheVariants as carried
 use Rattle.vcm_templates.specs.declared.carried.Item.TheVariants as items
 use Rattle.vcm_templates.specs.declared.lengths.Kept.TheVariants as kept
-use Rattle.vcm_templates.specs.Carried.{carried_term, item_term}
+use Rattle.vcm_templates.specs.declared.lengths.Length.TheVariants as lengths
+use Rattle.vcm_templates.specs.Carried.{carried_term, item_term, length_target, length_term}
 use Rattle.vcm_templates.specs.Expressions.{number, truth, both, is_known, is_current, are_current, knows_frame}
 use Rattle.vcm_templates.specs.Templates.{stands, set, set_item, lose, know, untried, asks, asks_variables, asks_within, asks_all, where_known, elsewhere, ends, goes, gone, untried_point, lose_frame, new_frame, frame_gone, sets_bound}
 use Rattle.vcm_templates.specs.Exact.{folded}
@@ -35,6 +38,8 @@ use Rattle.vcm_kept.specs.declared.text.Text.{Text}
 use Rattle.vcm_kept.specs.Effects.{no_effects}
 use Rattle.vcm_kept.specs.Places.{asks_place, motion_asks, length_asks, point_asks, asks_point, keeps_here, keeps_known, goes_to, moves_known, home_asks, goes_home, forgets}
 use Rattle.vcm_kept.specs.Exactly.{exact_form}
+use Rattle.vcm_kept.specs.Choices.{chosen_by, opens_case, adds_value, begins_case}
+use Rattle.vcm_kept.specs.Datums.{origin_asks, goes_along, asks_origin, keeps_origin, origin_lost, frame_asks}
 use Rattle.vcm_kept.specs.Guarding.{Reached, begun, block, text_of, guards, know_variable, lose_variable, assigned_where, selects, unselected, point_goes, own_point, direction_asks, touches_declared, touches_itself, features_at, nominal_where, setting_where, made_where, recalled_where, machine_name, recalls_machine, unreported, is_measured, obtains_here, measures, closes, unknown_asks, asks_rounds}
 
 -- ---- what stands above
@@ -99,6 +104,12 @@ pub motion : puts (form.Move place) ≡ asks 9 motion_asks ∷ (place_asked ++ g
 unfolding moves_known asks_point asks_place asks_all asks_variables asks_within
 motion = refl
 
+-- within a measurement it asks for the clearance surface besides
+pub motion_within : guards bare (record above { measuring = Some (codes "A") }) 9 0 (form.Move place)
+    ≡ asks 9 (both motion_asks (is_current carried.Clearance)) ∷ (place_asked ++ goes 9 ++ stands 9 0 (form.Move place) ∷ gone 9)
+unfolding moves_known asks_point asks_place asks_all asks_variables asks_within
+motion_within = refl
+
 -- a motion to a place that isn't known
 pub motion_untried : puts (form.Move unknown_place) ≡ untried 9 ∷ []
 unfolding folded
@@ -111,7 +122,7 @@ home = refl
 
 -- home, where the text has a FROM
 pub home_from : guards (record bare { from = true }) above 9 0 form.Home
-    ≡ stands 9 0 (form.Test (is_current carried.Home)) ∷ (goes_home false 9 0 ++ elsewhere 9 ∷ (goes_to false 9 kept.Home motion_asks ++ ends 9 ∷ []))
+    ≡ stands 9 0 (form.Test (is_current carried.Home)) ∷ (goes_home false false 9 0 ++ elsewhere 9 ∷ (goes_to false 9 kept.Home motion_asks ++ ends 9 ∷ []))
 home_from = refl
 
 -- FROM keeps its place, and home is no more that of the part file
@@ -166,7 +177,7 @@ feature = refl
 
 -- TRANS
 pub shift : puts (form.Shift (codes "D") (record { axis = axes.X; length = whole 5 } ∷ []))
-    ≡ asks 9 length_asks ∷ where_known 9 ∷ stands 9 0 (form.Shift (codes "D") (record { axis = axes.X; length = whole 5 } ∷ [])) ∷ made_where 9 0
+    ≡ asks 9 length_asks ∷ where_known 9 ∷ stands 9 0 (form.Shift (codes "D") (record { axis = axes.X; length = whole 5 } ∷ [])) ∷ made_where false 9 0
 unfolding asks_all asks_variables asks_within
 shift = refl
 
@@ -177,16 +188,42 @@ frame_unknown = refl
 
 -- RECALL, where the frame is known
 pub restored : puts (form.Restore (codes "D"))
-    ≡ stands 9 0 (form.Test (pair (Compare Greater) (item_term items.Saved 0) (carried_term carried.Floor))) ∷ stands 9 0 (form.Restore (codes "D")) ∷ recalled_where 9 0
+    ≡ stands 9 0 (form.Test (pair (Compare Greater) (item_term items.Saved 0) (carried_term carried.Floor))) ∷ stands 9 0 (form.Restore (codes "D")) ∷ recalled_where false 9 0
 restored = refl
 
 -- RECALL of a frame that the text doesn't have
 pub restored_unknown : puts (form.Restore (codes "B")) ≡ lose_frame 9 ∷ []
 restored_unknown = refl
 
+-- DATDEF: the feature is a datum as it was measured last
+pub bound_here : puts (bound (codes "A")) ≡ set_item 9 items.Bound 0 (Plain (item_term items.Measured 0)) ∷ []
+bound_here = refl
+
+-- an origin that lies on it: it asks that the feature was measured in this frame and not again since, and that its direction goes along the axis
+pub origin : puts (origin_on axes.Z (codes "A"))
+    ≡ asks 9 (origin_asks 0) ∷ where_known 9 ∷ stands 9 0 (form.Query (length_target lengths.Along) Actual (codes "A") words.K) ∷ asks 9 goes_along ∷ ends 9
+    ∷ where_known 9 ∷ stands 9 0 (form.Query (length_target lengths.OriginZ) Actual (codes "A") words.Z) ∷ elsewhere 9 ∷ origin_lost 9 ∷ ends 9 ∷ []
+unfolding asks_origin keeps_origin
+origin = refl
+
+-- an origin on a feature that isn't declared
+pub origin_unknown : puts (origin_on axes.Z (codes "B")) ≡ origin_lost 9 ∷ []
+origin_unknown = refl
+
+-- the frame, where all its origins are known
+pub framed : puts (form.Shift (codes "D") (record { axis = axes.Z; length = origin_length } ∷ []))
+    ≡ asks 9 frame_asks ∷ where_known 9
+    ∷ stands 9 0 (form.Shift (codes "D") (record { axis = axes.Z; length = Plain (length_term lengths.OriginZ) } ∷ [])) ∷ made_where true 9 0
+framed = refl
+
+-- ROTATE, in a text that has datums: the axes are others behind it
+pub turned : guards (record bare { datums = true }) above 9 0 (form.Rotation (codes "D") axes.Z turns.One)
+    ≡ asks 9 length_asks ∷ where_known 9 ∷ stands 9 0 (form.Rotation (codes "D") axes.Z turns.One) ∷ set 9 carried.Straight (Plain (number (pos 0))) ∷ made_where true 9 0
+turned = refl
+
 -- the machine's frame
 pub machine : puts (gained events.Machine) ≡ stands 9 0 (form.Restore machine_name) ∷ new_frame 9
-unfolding recalls_machine
+unfolding recalls_machine new_frame
 machine = refl
 
 -- ---- choices and loops
@@ -204,7 +241,7 @@ unfolding unknown_asks folded
 test_unknown = refl
 
 -- its end, where motions stand between: elsewhere they aren't tried
-pub test_end : guards bare (record above { blocks = record (block 7 None []) { effects = record no_effects { moves = true } } ∷ [] }) 9 0 form.TestEnd
+pub test_end : guards bare (record above { blocks = record (block 7 None 0 []) { effects = record no_effects { moves = true } } ∷ [] }) 9 0 form.TestEnd
     ≡ stands 9 0 form.TestEnd ∷ closes 7 (record no_effects { moves = true }) []
 test_end = refl
 
@@ -230,6 +267,47 @@ choice = refl
 pub choice_unknown : puts (form.Choose unknown) ≡ asks 9 (truth false) ∷ where_known 9 ∷ stands 9 0 (form.Choose (whole 0)) ∷ []
 unfolding unknown_asks folded
 choice_unknown = refl
+
+-- ---- SELECT, where a CASE has several values
+
+-- a text with such a CASE, and a SELECT that is open
+abbrev pub split : Text
+split = record bare { several = true }
+
+abbrev pub inside : Reached
+inside = record above { blocks = block 7 None 0 [] ∷ [] }
+
+-- SELECT: its value is kept, and no block is taken so far
+pub choice_kept : guards split above 9 0 (form.Choose (whole 2))
+    ≡ asks 9 (truth true) ∷ where_known 9 ∷ set_item 9 items.Chosen 0 (whole 2) ∷ set_item 9 items.Open 0 (whole 1) ∷ stands 9 0 (form.Test (truth true)) ∷ []
+unfolding asks_all asks_variables asks_within chosen_by
+choice_kept = refl
+
+-- CASE: where none is taken so far it is asked whether it is this value
+pub case_asked : guards split inside 9 0 (form.Case (pos 1))
+    ≡ stands 9 0 (form.Test (pair (Compare Equal) (item_term items.Open 0) (number (pos 1))))
+    ∷ asks 9 (pair (Compare Equal) (item_term items.Chosen 0) (number (pos 1))) ∷ []
+unfolding opens_case
+case_asked = refl
+
+-- or another one
+pub value_added : guards split inside 9 0 (event_form events.CaseValue (pos 2))
+    ≡ asks 9 (Pair Or (Plain (carried_term carried.Asked)) (pair (Compare Equal) (item_term items.Chosen 0) (number (pos 2)))) ∷ []
+unfolding adds_value
+value_added = refl
+
+-- its block is taken
+pub case_taken : guards split inside 9 0 (gained events.CaseBegins) ≡ where_known 9 ∷ set_item 9 items.Open 0 (whole 0) ∷ []
+unfolding begins_case
+case_taken = refl
+
+-- ENDCAS
+pub case_ended : guards split inside 9 0 form.CaseEnd ≡ ends 9 ∷ ends 9 ∷ []
+case_ended = refl
+
+-- where each CASE has one value all stands as it is
+pub case_alone : guards bare inside 9 0 (form.Case (pos 1)) ++ guards bare inside 9 0 (gained events.CaseBegins) ≡ stands 9 0 (form.Case (pos 1)) ∷ []
+case_alone = refl
 
 -- ---- the machine
 

@@ -332,9 +332,12 @@ pub(crate) fn keep_setting(
 
 // ---- declarations
 
-// The names of lengths.
+/// The names of lengths.
 #[tactic(auto, unfolding(crate::specs::Places::length_names))]
-fn length_names(alloc: Global, lengths: &[Length]) -> Result<Items<VariableName>, NoMemory>
+pub(crate) fn length_names(
+    alloc: Global,
+    lengths: &[Length],
+) -> Result<Items<VariableName>, NoMemory>
     ensures { IfOk result (λ names. names ≡ length_names lengths.now) }
 {
     let mut names = Items::new(alloc);

@@ -1,10 +1,10 @@
 //! Blocks: choices, loops, the end.
 
 ghost use Rattle.std.specs.Prelude.{◌≡◌, ◌++◌, ◌∷◌, [], pos, Some, None, true, false, OnOk, IfOk, List, drop};
-ghost use Rattle.vcm_expr.specs.Source.{Plain};
 ghost use Rattle.vcm_kept.specs.Guarding.{unknown_asks, tests, chooses, has_increment, asks_increment, loop_index, loops_by, asks_rounds, repeats, first_block, closed, closes, loop_ends, repeats_end, chooses_end, ending};
 ghost use Rattle.vcm_templates.specs.Templates.{stands};
 
+use crate::choices::{choose_known, choose_nothing};
 use crate::effects::{Effects, lose_block};
 use crate::reached::{OpenBlock, note_effects};
 use crate::variables::{know_variable, lose_variable};
@@ -14,7 +14,7 @@ use vcm_forms::{Form, Rounds};
 use vcm_items::{BoundedStack, Name};
 use vcm_num::{Kind, NoMemory};
 use vcm_templates::{
-    Guarded, IMPLICIT, ask, ask_all, elsewhere, end, has_form, number, stand, truth, where_known,
+    Guarded, IMPLICIT, ask, ask_all, elsewhere, end, has_form, stand, truth, where_known,
 };
 
 // A choice by something that isn't known.
@@ -51,21 +51,23 @@ pub(crate) fn test(
 pub(crate) fn choose(
     alloc: Global,
     out: &mut Vec<Guarded>,
+    several: bool,
     line: u32,
     expansion: u32,
+    depth: u16,
     names: &Names,
     value: Expr,
 ) -> Result<(), NoMemory>
-    ensures { OnOk result (out.new.items ≡ out.old.items ++ chooses line expansion names.now value) }
+    ensures { OnOk result (out.new.items ≡ out.old.items ++ chooses several line expansion depth names.now value) }
 {
     if !has_form(alloc, names, Want::Int, &value)? {
         ask_nothing(out, line)?;
-        return stand(out, line, expansion, Form::Choose(Expr::leaf(number(0))));
+        return choose_nothing(out, several, line, expansion);
     }
     ask(out, line, truth(true))?;
     ask_all(alloc, out, line, names, &value)?;
     where_known(out, line)?;
-    stand(out, line, expansion, Form::Choose(value))
+    choose_known(out, several, line, expansion, depth, value)
 }
 
 // Whether an increment has a form, or is left out.

@@ -233,6 +233,8 @@ impl Effects {
             Event::Features => Effects::declaration(),
             Event::Frames | Event::Frame | Event::Saving | Event::Machine => Effects::frame(),
             Event::Angle | Event::Plane => Effects::plane(),
+            Event::Bind | Event::Origins | Event::Origin => Effects::none(),
+            Event::CaseValue | Event::CaseBegins => Effects::none(),
             Event::Polar => Effects::none(),
             Event::PolarMotion => Effects::motion(),
             Event::PolarPoint => Effects::measurement(),

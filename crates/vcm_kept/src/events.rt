@@ -9,6 +9,8 @@ ghost use Rattle.vcm_forms.specs.declared.statement.Form.TheVariants as form;
 ghost use Rattle.vcm_templates.specs.Templates.{stands, elsewhere, ends, set, untried, untried_point, lose_all};
 ghost use Rattle.vcm_kept.specs.Guarding.{is_nothing, turns_machine, turns_state, changes_sensor, selects, unselected, selects_number, selects_by, wants_points, machine_name, recalls_machine, polar_asks, turns_polar, happens, assigns_or};
 
+use crate::choices::{add_value, begin_block};
+use crate::datums::{begin_origins, straighten};
 use crate::places::go_to_target;
 use crate::text::Text;
 use crate::variables::assign;
@@ -188,12 +190,14 @@ fn recall_machine(
     out: &mut Vec<Guarded>,
     line: u32,
     machine: bool,
+    datums: bool,
 ) -> Result<(), NoMemory>
-    ensures { OnOk result (out.new.items ≡ out.old.items ++ recalls_machine machine line) }
+    ensures { OnOk result (out.new.items ≡ out.old.items ++ recalls_machine machine datums line) }
 {
     if machine {
         stand(out, line, 0, Form::Restore(machine_name()))?;
-        new_frame(alloc, out, line)
+        new_frame(alloc, out, line)?;
+        straighten(out, datums, line)
     } else {
         lose_frame(out, line)
     }
@@ -257,6 +261,13 @@ fn lose_everything(alloc: Global, out: &mut Vec<Guarded>, line: u32) -> Result<(
     lose_all(alloc, out, line)
 }
 
+/// Where a statement stands: whether within a measurement, and how deep the innermost block is.
+#[derive(Clone, Copy)]
+pub struct Around {
+    pub measuring: bool,
+    pub depth: u16,
+}
+
 // What an event does.
 fn happen(
     alloc: Global,
@@ -264,11 +275,12 @@ fn happen(
     line: u32,
     expansion: u32,
     text: Text,
+    around: Around,
     names: &Names,
     event: Event,
     value: Expr,
 ) -> Result<(), NoMemory>
-    ensures { OnOk result (out.new.items ≡ out.old.items ++ happens text line expansion names.now event value) }
+    ensures { OnOk result (out.new.items ≡ out.old.items ++ happens text around line expansion names.now event value) }
 {
     let v = &value;
     match event {
@@ -283,7 +295,10 @@ fn happen(
         Event::Clearance => turn_state(out, line, Carried::Clearance, Cause::Setting, v),
         Event::Compensation => turn_state(out, line, Carried::Compensation, Cause::Setting, v),
         Event::Qualification => turn_state(out, line, Carried::Qualification, Cause::Setting, v),
-        Event::Target => go_to_target(alloc, out, text.spots, text.steps, line),
+        Event::Target => {
+            let (spots, steps) = (text.spots, text.steps);
+            go_to_target(alloc, out, spots, steps, around.measuring, line)
+        }
         Event::Place => set_number(out, line, Carried::Place, 0),
         Event::Untried => untried(out, line),
         Event::UntriedPoint => untried_point(alloc, out, line),
@@ -297,7 +312,7 @@ fn happen(
         ),
         Event::Frame => lose_frame(out, line),
         Event::Saving => set_number(out, line, Carried::Saving, 0),
-        Event::Machine => recall_machine(alloc, out, line, text.machine),
+        Event::Machine => recall_machine(alloc, out, line, text.machine, text.datums),
         Event::Points => want_points(alloc, out, line, names, value),
         Event::Sensor => select_by(alloc, out, line, expansion, v),
         Event::Angle => turn_polar(out, line, text.polar, Carried::Angle, v),
@@ -305,6 +320,10 @@ fn happen(
         Event::Polar => begin_polar(alloc, out, line),
         Event::PolarMotion => end_motion(out, line),
         Event::PolarPoint => end_point(alloc, out, line),
+        Event::Bind | Event::Origin => Ok(()),
+        Event::Origins => begin_origins(out, text.datums, line),
+        Event::CaseValue => add_value(alloc, out, line, around.depth, v),
+        Event::CaseBegins => begin_block(out, text.several, line, around.depth),
         Event::Ends => go_to_end(out, line),
         Event::All => lose_everything(alloc, out, line),
     }
@@ -317,14 +336,17 @@ pub(crate) fn assign_or(
     line: u32,
     expansion: u32,
     text: Text,
+    around: Around,
     names: &Names,
     target: Target,
     value: Expr,
 ) -> Result<(), NoMemory>
-    ensures { OnOk result (out.new.items ≡ out.old.items ++ assigns_or text line expansion names.now target value (event_named target.name)) }
+    ensures { OnOk result (out.new.items ≡ out.old.items ++ assigns_or text around line expansion names.now target value (event_named target.name)) }
 {
     match Event::named(target.name.as_bytes()) {
-        Some(event) => happen(alloc, out, line, expansion, text, names, event, value),
+        Some(event) => happen(
+            alloc, out, line, expansion, text, around, names, event, value,
+        ),
         None => assign(alloc, out, line, expansion, names, target, value),
     }
 }

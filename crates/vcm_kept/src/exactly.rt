@@ -8,7 +8,7 @@ ghost use Rattle.vcm_templates.specs.Exact.{exact_at, is_quotient, kind_in};
 ghost use Rattle.vcm_kept.specs.Exactly.{is_product, is_pointed, may_be_cut, is_cut_place, is_cut_increment, is_cut_shift, is_cut, is_cut_placed, want_of, want_by, want_at, exact_length, exact_place, is_real, is_steady, steady, exact_step, exact_steps, exact_spot, exact_shift, exact_increment, exact_rounds, exact_form};
 
 use std::alloc::Global;
-use vcm_events::{Spot, unknown};
+use vcm_events::{Spot, is_origin, unknown};
 use vcm_expr::{BinaryOp, Expr, Names, Piece, Want};
 use vcm_forms::{Coordinates, Form, Offset, Rounds, Target};
 use vcm_macro::Placed;
@@ -233,6 +233,12 @@ fn exact_shift(alloc: Global, names: &Names, offset: &Offset) -> Result<Offset, 
     let Ok(length) = offset.length.copy(alloc) else {
         return Err(NoMemory);
     };
+    if is_origin(&length) {
+        return Ok(Offset {
+            axis: offset.axis,
+            length,
+        });
+    }
     let length = exact_length(alloc, names, length)?;
     Ok(Offset {
         axis: offset.axis,

@@ -7,9 +7,10 @@ ghost use Rattle.vcm_expr.specs.declared.typing.Want.TheVariants as wants;
 ghost use Rattle.vcm_forms.specs.declared.statement.Form.TheVariants as form;
 ghost use Rattle.vcm_remarks.specs.declared.remark.Cause.TheVariants as causes;
 ghost use Rattle.vcm_templates.specs.Templates.{asks, asks_all, where_known, stands, elsewhere, lose, know, ends, frame_gone};
-ghost use Rattle.vcm_kept.specs.Guarding.{carried_setting, configures, setting_where, declares_frame, made_where, found_in, has_shifts, has_shift, asks_shifts, shifts_in, shifts, turn_asks, turns_in, recalls_at, recalled_where, with_known};
+ghost use Rattle.vcm_kept.specs.Guarding.{carried_setting, configures, setting_where, declares_frame, made_where, found_in, has_shifts, has_shift, asks_shifts, shifts_in, shifts, origins_in, turn_asks, turns_in, recalls_at, recalled_where, with_known};
 
 use crate::approaches::keep_setting;
+use crate::datums::{declare_axes, frame_asks, keep_axes, recall_axes, shifts_of, turn_axes};
 use crate::places::{copied, length_asks};
 use crate::points::index_among;
 use std::alloc::Global;
@@ -79,24 +80,35 @@ pub(crate) fn configure(
 fn declare_carried(
     alloc: Global,
     out: &mut Vec<Guarded>,
+    datums: bool,
     line: u32,
     index: u16,
     was: Option<u16>,
 ) -> Result<(), NoMemory>
-    ensures { OnOk result (out.new.items ≡ out.old.items ++ declares_frame line index was) }
+    ensures { OnOk result (out.new.items ≡ out.old.items ++ declares_frame datums line index was) }
 {
     match was {
         Some(_) => Ok(()),
-        None => declare_item(alloc, out, line, Item::Saved, index),
+        None => {
+            declare_item(alloc, out, line, Item::Saved, index)?;
+            declare_axes(alloc, out, datums, line, index)
+        }
     }
 }
 
 // Behind a frame that is made it is a new one, elsewhere it isn't known.
 #[tactic(auto, unfolding(crate::specs::Guarding::made_where))]
-fn made_where(alloc: Global, out: &mut Vec<Guarded>, line: u32, index: u16) -> Result<(), NoMemory>
-    ensures { OnOk result (out.new.items ≡ out.old.items ++ made_where line index) }
+fn made_where(
+    alloc: Global,
+    out: &mut Vec<Guarded>,
+    datums: bool,
+    line: u32,
+    index: u16,
+) -> Result<(), NoMemory>
+    ensures { OnOk result (out.new.items ≡ out.old.items ++ made_where datums line index) }
 {
     save_frame(alloc, out, line, index)?;
+    keep_axes(out, datums, line, index)?;
     elsewhere(out, line)?;
     frame_gone(out, line, Some(index))?;
     end(out, line)
@@ -161,6 +173,7 @@ fn ask_shifts(
 fn shift_in(
     alloc: Global,
     out: &mut Vec<Guarded>,
+    datums: bool,
     line: u32,
     expansion: u32,
     names: &Names,
@@ -168,25 +181,26 @@ fn shift_in(
     label: Name,
     offsets: Items<Offset>,
 ) -> Result<(), NoMemory>
-    ensures put { OnOk result (out.new.items ≡ out.old.items ++ shifts_in line expansion names.now frames.old label offsets) }
+    ensures put { OnOk result (out.new.items ≡ out.old.items ++ shifts_in datums line expansion names.now frames.old label offsets) }
     ensures frames { OnOk result (frames.new ≡ with_known frames.old label) }
 {
     let was = index_among(frames, &label);
     let Some(index) = entered(frames, &label)? else {
         return stand(out, line, expansion, Form::Shift(label, offsets));
     };
-    declare_carried(alloc, out, line, index, was)?;
+    declare_carried(alloc, out, datums, line, index, was)?;
     ask(out, line, length_asks(alloc)?)?;
     ask_shifts(alloc, out, line, names, offsets.as_slice())?;
     where_known(out, line)?;
     stand(out, line, expansion, Form::Shift(label, offsets))?;
-    made_where(alloc, out, line, index)
+    made_where(alloc, out, datums, line, index)
 }
 
 /// TRANS.
 pub(crate) fn shift(
     alloc: Global,
     out: &mut Vec<Guarded>,
+    datums: bool,
     line: u32,
     expansion: u32,
     names: &Names,
@@ -194,14 +208,41 @@ pub(crate) fn shift(
     label: Name,
     offsets: Items<Offset>,
 ) -> Result<(), NoMemory>
-    ensures put { OnOk result (out.new.items ≡ out.old.items ++ shifts line expansion names.now frames.old label offsets) }
+    ensures put { OnOk result (out.new.items ≡ out.old.items ++ shifts datums line expansion names.now frames.old label offsets) }
     ensures frames { OnOk result (frames.new ≡ (if has_shifts names.now offsets then with_known frames.old label else frames.old)) }
 {
     if has_shifts(alloc, names, offsets.as_slice())? {
-        shift_in(alloc, out, line, expansion, names, frames, label, offsets)
+        shift_in(
+            alloc, out, datums, line, expansion, names, frames, label, offsets,
+        )
     } else {
         frame_gone(out, line, index_among(frames, &label))
     }
+}
+
+/// A frame by its origins.
+pub(crate) fn originated(
+    alloc: Global,
+    out: &mut Vec<Guarded>,
+    line: u32,
+    expansion: u32,
+    frames: &mut Titles,
+    label: Name,
+    offsets: &[Offset],
+) -> Result<(), NoMemory>
+    ensures put { OnOk result (out.new.items ≡ out.old.items ++ origins_in line expansion frames.old label offsets.now) }
+    ensures frames { OnOk result (frames.new ≡ with_known frames.old label) }
+{
+    let shifts = shifts_of(alloc, offsets)?;
+    let was = index_among(frames, &label);
+    let Some(index) = entered(frames, &label)? else {
+        return stand(out, line, expansion, Form::Shift(label, shifts));
+    };
+    declare_carried(alloc, out, true, line, index, was)?;
+    ask(out, line, frame_asks(alloc)?)?;
+    where_known(out, line)?;
+    stand(out, line, expansion, Form::Shift(label, shifts))?;
+    made_where(alloc, out, true, line, index)
 }
 
 // What has to be known for a turn.
@@ -221,6 +262,7 @@ pub(crate) fn rotate(
     alloc: Global,
     out: &mut Vec<Guarded>,
     angles: bool,
+    datums: bool,
     line: u32,
     expansion: u32,
     frames: &mut Titles,
@@ -228,24 +270,30 @@ pub(crate) fn rotate(
     axis: FrameAxis,
     turns: Quarters,
 ) -> Result<(), NoMemory>
-    ensures put { OnOk result (out.new.items ≡ out.old.items ++ turns_in angles line expansion frames.old label axis turns) }
+    ensures put { OnOk result (out.new.items ≡ out.old.items ++ turns_in angles datums line expansion frames.old label axis turns) }
     ensures frames { OnOk result (frames.new ≡ with_known frames.old label) }
 {
     let was = index_among(frames, &label);
     let Some(index) = entered(frames, &label)? else {
         return stand(out, line, expansion, Form::Rotation(label, axis, turns));
     };
-    declare_carried(alloc, out, line, index, was)?;
+    declare_carried(alloc, out, datums, line, index, was)?;
     ask(out, line, turn_asks(alloc, angles)?)?;
     where_known(out, line)?;
     stand(out, line, expansion, Form::Rotation(label, axis, turns))?;
-    made_where(alloc, out, line, index)
+    turn_axes(out, datums, line)?;
+    made_where(alloc, out, datums, line, index)
 }
 
 // Behind a frame that is recalled it is the current one, elsewhere this isn't known.
 #[tactic(auto, unfolding(crate::specs::Guarding::recalled_where))]
-fn recalled_where(out: &mut Vec<Guarded>, line: u32, index: u16) -> Result<(), NoMemory>
-    ensures { OnOk result (out.new.items ≡ out.old.items ++ recalled_where line index) }
+fn recalled_where(
+    out: &mut Vec<Guarded>,
+    datums: bool,
+    line: u32,
+    index: u16,
+) -> Result<(), NoMemory>
+    ensures { OnOk result (out.new.items ≡ out.old.items ++ recalled_where datums line index) }
 {
     set(
         out,
@@ -253,6 +301,7 @@ fn recalled_where(out: &mut Vec<Guarded>, line: u32, index: u16) -> Result<(), N
         Carried::Frame,
         Expr::leaf(Item::Saved.term(index)),
     )?;
+    recall_axes(out, datums, line, index)?;
     elsewhere(out, line)?;
     lose_frame(out, line)?;
     end(out, line)
@@ -262,12 +311,13 @@ fn recalled_where(out: &mut Vec<Guarded>, line: u32, index: u16) -> Result<(), N
 pub(crate) fn recall(
     alloc: Global,
     out: &mut Vec<Guarded>,
+    datums: bool,
     line: u32,
     expansion: u32,
     frames: &Titles,
     label: Name,
 ) -> Result<(), NoMemory>
-    ensures { OnOk result (out.new.items ≡ out.old.items ++ recalls_at line expansion label (index_of frames.now label)) }
+    ensures { OnOk result (out.new.items ≡ out.old.items ++ recalls_at datums line expansion label (index_of frames.now label)) }
 {
     let Some(index) = index_among(frames, &label) else {
         return lose_frame(out, line);
@@ -276,5 +326,5 @@ pub(crate) fn recall(
     let test = pair(alloc, op, Item::Saved.term(index), Carried::Floor.term())?;
     stand(out, line, 0, Form::Test(test))?;
     stand(out, line, expansion, Form::Restore(label))?;
-    recalled_where(out, line, index)
+    recalled_where(out, datums, line, index)
 }

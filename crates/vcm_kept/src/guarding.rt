@@ -11,7 +11,8 @@ ghost use Rattle.vcm_expr.specs.Source.{leaf_in};
 ghost use Rattle.vcm_events.specs.Events.{event_named};
 ghost use Rattle.vcm_events.specs.Spots.{spot_named, slanted_name};
 ghost use Rattle.vcm_kept.specs.Effects.{listed_index};
-ghost use Rattle.vcm_kept.specs.Guarding.{spots_by, features_or, shifts_or, reaches_spot, reaches_feature, reaches_shift, spot_in, is_spotted, is_from, is_step, is_slanted_placed, has_several, is_pointed_placed, are_three, is_polar_event, is_polar_placed, opens_polar, block, opened, noted, reaches_form, begun, guards, reaches, guards_from, is_jump_placed, names_machine_placed, first_names, last_names, text_of, opens, declares_carried, keeps_machine, opening, guarded, measures, measured, first_variables};
+ghost use Rattle.vcm_kept.specs.Guarding.{spots_by, features_or, shifts_or, reaches_spot, reaches_feature, reaches_shift, spot_in, is_spotted, is_from, is_step, is_slanted_placed, has_several, is_pointed_placed, are_three, is_polar_event, is_polar_placed, opens_polar, around, is_several_placed, is_datum_event, is_dated_placed, block, opened, noted, reaches_form, begun, guards, reaches, guards_from, is_jump_placed, names_machine_placed, first_names, last_names, text_of, opens, declares_carried, keeps_machine, opening, declares_first, opens_first, guarded, measures, measured, first_variables};
+ghost use Rattle.vcm_kept.specs.Choices.{next_depth};
 ghost use Rattle.vcm_kept.specs.Exactly.{exact_form, is_cut_placed};
 ghost use Rattle.vcm_kept.specs.inner.Reaching.{reached, is_block, is_other, is_state};
 
@@ -19,19 +20,23 @@ use crate::approaches::{declare_kept, declare_slanted, slant_or};
 use crate::blocks::{
     choose, end_block, end_choice, end_program, end_repeat, loops_by, repeat, test,
 };
+use crate::choices::{
+    begin_case, begin_default, choice_end, declare_choices, end_case, inner_depth, next_depth,
+};
+use crate::datums::declare_datums;
 use crate::effects::{Effects, set_by};
-use crate::events::{assign_or, is_nothing, machine_name};
+use crate::events::{Around, assign_or, is_nothing, machine_name};
 use crate::exactly::{exact_form, has_cut};
-use crate::frames::{configure, recall, rotate, shift};
+use crate::frames::{configure, originated, recall, rotate, shift};
 use crate::places::{go_home, go_to, keep, step_by};
 use crate::points::{declare, end_measure, measure, measured_index, touch};
 use crate::reached::{OpenBlock, begin_block, note_effects};
 use crate::text::Text;
-use crate::values::{obtain, report};
+use crate::values::{query, report};
 use crate::variables::declare_all;
 use std::alloc::Global;
 use std::mem::replace;
-use vcm_events::{Event, Spot, slanted_name};
+use vcm_events::{Event, Spot, are_origins, slanted_name};
 use vcm_expr::{BinaryOp, Expr, Names, Term};
 use vcm_forms::{Coordinates, Form, Offset, Target};
 use vcm_items::{BoundedStack, Name, VariableName};
@@ -56,11 +61,12 @@ pub(crate) struct Above {
 
 // One more block is open.
 fn open_block(above: &mut Above, line: u32, index: Option<u16>)
-    ensures { reached above.new ≡ record (reached above.old) { blocks = opened (block line index above.old.assigned.items) above.old.blocks } }
+    ensures { reached above.new ≡ record (reached above.old) { blocks = opened (block line index (next_depth above.old.blocks) above.old.assigned.items) above.old.blocks } }
 {
     let block = OpenBlock {
         line,
         index,
+        depth: next_depth(&above.blocks),
         since: above.assigned.len(),
         effects: Effects::none(),
     };
@@ -88,7 +94,18 @@ fn guard_block(
             Ok(())
         }
         Form::Choose(value) => {
-            choose(alloc, out, line, expansion, &above.names, value)?;
+            let depth = next_depth(&above.blocks);
+            let several = text.several;
+            choose(
+                alloc,
+                out,
+                several,
+                line,
+                expansion,
+                depth,
+                &above.names,
+                value,
+            )?;
             open_block(above, line, None);
             Ok(())
         }
@@ -101,6 +118,11 @@ fn guard_block(
         Form::RepeatEnd => {
             let block = end_block(&mut above.blocks);
             end_repeat(alloc, out, line, expansion, block, &above.assigned)
+        }
+        Form::ChooseEnd => {
+            let block = end_block(&mut above.blocks);
+            let form = choice_end(text.several);
+            end_choice(alloc, out, line, expansion, block, &above.assigned, form)
         }
         form => {
             let block = end_block(&mut above.blocks);
@@ -137,7 +159,17 @@ fn guard_other(
     if is_block(&form) {
         return guard_block(alloc, out, text, above, line, expansion, form);
     }
+    let several = text.several;
     match form {
+        Form::Case(value) => {
+            let depth = inner_depth(&above.blocks);
+            begin_case(alloc, out, several, line, expansion, depth, value)
+        }
+        Form::Default => {
+            let depth = inner_depth(&above.blocks);
+            begin_default(alloc, out, several, line, expansion, depth)
+        }
+        Form::CaseEnd => end_case(out, several, line, expansion),
         Form::Ending => end_program(out, line, expansion, text.jumps),
         form => stand(out, line, expansion, form),
     }
@@ -162,10 +194,23 @@ fn guard_shift(
         let legs = offsets.as_slice();
         return slant_or(alloc, out, text, line, &above.names, index, legs);
     }
+    if are_origins(offsets.as_slice()) {
+        let frames = &mut above.frames;
+        return originated(
+            alloc,
+            out,
+            line,
+            expansion,
+            frames,
+            label,
+            offsets.as_slice(),
+        );
+    }
     let names = &above.names;
     shift(
         alloc,
         out,
+        text.datums,
         line,
         expansion,
         names,
@@ -199,12 +244,18 @@ fn guard_state(
         }
         Form::Rotation(label, axis, turns) => {
             let frames = &mut above.frames;
-            rotate(alloc, out, text.polar, line, e, frames, label, axis, turns)
+            let (polar, datums) = (text.polar, text.datums);
+            rotate(
+                alloc, out, polar, datums, line, e, frames, label, axis, turns,
+            )
         }
-        Form::Restore(label) => recall(alloc, out, line, e, &above.frames, label),
+        Form::Restore(label) => {
+            let frames = &above.frames;
+            recall(alloc, out, text.datums, line, e, frames, label)
+        }
         Form::Query(target, side, label, word) => {
             let (names, features) = (&above.names, &above.features);
-            obtain(
+            query(
                 alloc, out, line, e, names, features, target, side, label, word,
             )
         }
@@ -232,13 +283,14 @@ fn begin_measure(
 fn finish_measure(
     alloc: Global,
     out: &mut Vec<Guarded>,
+    datums: bool,
     line: u32,
     above: &mut Above,
 ) -> Result<(), NoMemory>
-    ensures put { OnOk result (out.new.items ≡ out.old.items ++ measured line above.old.features above.old.measuring) }
+    ensures put { OnOk result (out.new.items ≡ out.old.items ++ measured datums line above.old.features above.old.measuring) }
     ensures above { OnOk result (reached above.new ≡ record (reached above.old) { measuring = None }) }
 {
-    end_measure(alloc, out, line, &above.features, &above.measuring)?;
+    end_measure(alloc, out, datums, line, &above.features, &above.measuring)?;
     drop(replace(&mut above.measuring, None));
     Ok(())
 }
@@ -264,6 +316,7 @@ fn guard_assignment(
         line,
         expansion,
         text,
+        around(above),
         &above.names,
         target,
         value,
@@ -274,16 +327,27 @@ fn guard_assignment(
     Ok(())
 }
 
+// Where a statement stands.
+fn around(above: &Above) -> Around
+    ensures { result ≡ around (reached above.now) }
+{
+    Around {
+        measuring: above.measuring.is_some(),
+        depth: inner_depth(&above.blocks),
+    }
+}
+
 // A place that is none to go to at once.
 fn guard_spot(
     alloc: Global,
     out: &mut Vec<Guarded>,
+    measuring: bool,
     line: u32,
     names: &Names,
     place: &Coordinates,
     spot: Spot,
 ) -> Result<(), NoMemory>
-    ensures { OnOk result (out.new.items ≡ out.old.items ++ spots_by line names.now place.now spot) }
+    ensures { OnOk result (out.new.items ≡ out.old.items ++ spots_by measuring line names.now place.now spot) }
 {
     match spot {
         Spot::Home => {
@@ -291,8 +355,8 @@ fn guard_spot(
             lose(out, line, Carried::Home, Cause::Value)
         }
         Spot::Target => keep(alloc, out, line, names, Kept::Target, place),
-        Spot::Step => step_by(alloc, out, line, names, BinaryOp::Add, place),
-        Spot::Back => step_by(alloc, out, line, names, BinaryOp::Sub, place),
+        Spot::Step => step_by(alloc, out, measuring, line, names, BinaryOp::Add, place),
+        Spot::Back => step_by(alloc, out, measuring, line, names, BinaryOp::Sub, place),
     }
 }
 
@@ -322,7 +386,8 @@ fn guard_feature(
     ensures above { OnOk result (reached above.new ≡ reaches_feature (reached above.old) label place (spot_named label)) }
 {
     if let Some(spot) = Spot::named(label.as_bytes()) {
-        guard_spot(alloc, out, line, &above.names, &place, spot)?;
+        let measuring = above.measuring.is_some();
+        guard_spot(alloc, out, measuring, line, &above.names, &place, spot)?;
         aim(above, spot);
         return Ok(());
     }
@@ -331,6 +396,7 @@ fn guard_feature(
         alloc,
         out,
         text.pointed,
+        text.datums,
         line,
         expansion,
         names,
@@ -365,10 +431,16 @@ fn guard(
             guard_assignment(alloc, out, text, above, line, e, target, value)
         }
         Form::Move(place) => {
-            let (steps, aiming) = (text.steps, above.aiming);
-            go_to(alloc, out, steps, line, e, &above.names, aiming, place)
+            let (aiming, measuring) = (above.aiming, above.measuring.is_some());
+            let names = &above.names;
+            go_to(
+                alloc, out, text.steps, line, e, names, aiming, measuring, place,
+            )
         }
-        Form::Home => go_home(alloc, out, text.from, text.steps, line, e),
+        Form::Home => {
+            let measuring = above.measuring.is_some();
+            go_home(alloc, out, text.from, text.steps, measuring, line, e)
+        }
         Form::Feature(label, place, axis) => {
             guard_feature(alloc, out, text, above, line, e, label, place, axis)
         }
@@ -388,7 +460,7 @@ fn guard(
                 given,
             )
         }
-        Form::MeasureEnd => finish_measure(alloc, out, line, above),
+        Form::MeasureEnd => finish_measure(alloc, out, text.datums, line, above),
         form => guard_state(alloc, out, text, above, line, expansion, form),
     }
 }
@@ -608,6 +680,50 @@ fn has_polar(all: &[Placed]) -> bool
     all.iter().any(|placed| is_polar(placed))
 }
 
+// Whether a statement is about a datum.
+fn is_dated(placed: &Placed) -> bool
+    ensures { result ≡ is_dated_placed placed.now }
+{
+    match &placed.statement.form {
+        Form::Query(target, _, _, _) => is_datum_event(target.name.as_bytes()),
+        Form::Shift(_, offsets) => are_origins(offsets.as_slice()),
+        _ => false,
+    }
+}
+
+// Whether an event is about a datum.
+fn is_datum_event(name: &[u8]) -> bool
+    ensures { result ≡ is_datum_event (event_named name.now) }
+{
+    matches!(Event::named(name), Some(Event::Bind | Event::Origin))
+}
+
+// Whether one of the statements is about a datum.
+fn has_datums(all: &[Placed]) -> bool
+    ensures { result ≡ list_any is_dated_placed all.now }
+{
+    all.iter().any(|placed| is_dated(placed))
+}
+
+// Whether a statement says one value more of a CASE.
+fn is_several(placed: &Placed) -> bool
+    ensures { result ≡ is_several_placed placed.now }
+{
+    match &placed.statement.form {
+        Form::Assignment(target, _) => {
+            matches!(Event::named(target.name.as_bytes()), Some(Event::CaseValue))
+        }
+        _ => false,
+    }
+}
+
+// Whether one of the statements does.
+fn has_several_values(all: &[Placed]) -> bool
+    ensures { result ≡ list_any is_several_placed all.now }
+{
+    all.iter().any(|placed| is_several(placed))
+}
+
 // What holds of a text.
 fn text_of(all: &[Placed]) -> Text
     ensures { result ≡ text_of all.now }
@@ -621,6 +737,8 @@ fn text_of(all: &[Placed]) -> Text
         slants: has_slants(all),
         pointed: has_pointed(all),
         polar: has_polar(all),
+        datums: has_datums(all),
+        several: has_several_values(all),
         cut: has_cut(all),
     }
 }
@@ -789,6 +907,28 @@ fn nothing_above(alloc: Global, names: Names) -> Above
     }
 }
 
+// What is carried of a text is declared.
+#[tactic(auto, unfolding(crate::specs::Guarding::declares_first))]
+fn declare_first(alloc: Global, out: &mut Vec<Guarded>, text: Text) -> Result<(), NoMemory>
+    ensures { OnOk result (out.new.items ≡ out.old.items ++ declares_first text) }
+{
+    declare_carried(alloc, out)?;
+    declare_kept(alloc, out, text.spots)?;
+    declare_slanted(alloc, out, text.slants)?;
+    declare_datums(alloc, out, text.datums)?;
+    declare_choices(alloc, out, text.several)
+}
+
+// What is known at its start.
+#[tactic(auto, unfolding(crate::specs::Guarding::opens_first))]
+fn open_first(alloc: Global, out: &mut Vec<Guarded>, text: Text) -> Result<(), NoMemory>
+    ensures { OnOk result (out.new.items ≡ out.old.items ++ opens_first text) }
+{
+    keep_machine(alloc, out, text.machine)?;
+    open(out)?;
+    open_polar(out, text.polar)
+}
+
 /// What an expanded text is put as.
 ///
 /// # Errors
@@ -799,12 +939,8 @@ pub(crate) fn guarded(alloc: Global, all: Vec<Placed>) -> Result<Vec<Guarded>, N
 {
     let text = text_of(&all);
     let mut out = Vec::new(alloc);
-    declare_carried(alloc, &mut out)?;
-    declare_kept(alloc, &mut out, text.spots)?;
-    declare_slanted(alloc, &mut out, text.slants)?;
-    keep_machine(alloc, &mut out, text.machine)?;
-    open(&mut out)?;
-    open_polar(&mut out, text.polar)?;
+    declare_first(alloc, &mut out, text)?;
+    open_first(alloc, &mut out, text)?;
     let names = first_variables(alloc, text.cut)?;
     let mut above = nothing_above(alloc, names);
     guard_all(alloc, &mut out, text, &mut above, all)?;

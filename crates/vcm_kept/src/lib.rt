@@ -3,11 +3,14 @@
 
 mod approaches;
 mod blocks;
+mod choices;
+mod datums;
 mod effects;
 mod events;
 mod exactly;
 mod frames;
 mod guarding;
+pub mod laws;
 mod places;
 mod points;
 mod put;

@@ -7,7 +7,7 @@ ghost use Rattle.vcm_templates.specs.Carried.{length_term, frame_of};
 ghost use Rattle.vcm_templates.specs.Expressions.{number, both};
 ghost use Rattle.vcm_templates.specs.Templates.{stands, set, elsewhere, ends};
 ghost use Rattle.vcm_forms.specs.declared.statement.Form.TheVariants as form;
-ghost use Rattle.vcm_kept.specs.Places.{has_place, asks_place, motion_asks, length_asks, point_asks, approach_asks, aimed, asks_point, set_length, forgets, keeps_here, keeps_known, keeps, tracks, loses_track, goes_to, moves_known, moves, home_asks, goes_home, homes, reaches_target, step_at, step_place, step_asks, steps_known, steps_to, steps_by};
+ghost use Rattle.vcm_kept.specs.Places.{has_place, asks_place, motion_asks, length_asks, point_asks, approach_asks, aimed, asks_point, set_length, forgets, keeps_here, keeps_known, keeps, tracks, loses_track, goes_to, moves_known, moves, home_asks, goes_home, homes, reaches_target, within, step_at, step_place, step_asks, steps_known, steps_to, steps_by};
 
 use std::alloc::Global;
 use vcm_events::{join, pair};
@@ -132,6 +132,17 @@ fn aimed_asks(alloc: Global, aiming: bool) -> Result<Expr, NoMemory>
     let asked = motion_asks(alloc)?;
     if aiming {
         both(alloc, &asked, &is_current(alloc, Carried::OwnPoints)?)
+    } else {
+        Ok(asked)
+    }
+}
+
+// Within a measurement the machine may go over a clearance surface first.
+fn within(alloc: Global, measuring: bool, asked: Expr) -> Result<Expr, NoMemory>
+    ensures { IfOk result (λ e. e ≡ within measuring asked) }
+{
+    if measuring {
+        both(alloc, &asked, &is_current(alloc, Carried::Clearance)?)
     } else {
         Ok(asked)
     }
@@ -313,11 +324,13 @@ fn go_known(
     expansion: u32,
     names: &Names,
     aiming: bool,
+    measuring: bool,
     place: Coordinates,
 ) -> Result<(), NoMemory>
-    ensures { OnOk result (out.new.items ≡ out.old.items ++ moves_known steps line expansion names.now aiming place) }
+    ensures { OnOk result (out.new.items ≡ out.old.items ++ moves_known steps line expansion names.now aiming measuring place) }
 {
-    ask_point(alloc, out, line, names, aimed_asks(alloc, aiming)?, &place)?;
+    let asked = within(alloc, measuring, aimed_asks(alloc, aiming)?)?;
+    ask_point(alloc, out, line, names, asked, &place)?;
     go_and_track(alloc, out, steps, line, expansion, place)?;
     gone(out, line)
 }
@@ -331,12 +344,15 @@ pub(crate) fn go_to(
     expansion: u32,
     names: &Names,
     aiming: bool,
+    measuring: bool,
     place: Coordinates,
 ) -> Result<(), NoMemory>
-    ensures { OnOk result (out.new.items ≡ out.old.items ++ moves steps line expansion names.now aiming place) }
+    ensures { OnOk result (out.new.items ≡ out.old.items ++ moves steps line expansion names.now aiming measuring place) }
 {
     if has_place(alloc, names, &place)? {
-        go_known(alloc, out, steps, line, expansion, names, aiming, place)
+        go_known(
+            alloc, out, steps, line, expansion, names, aiming, measuring, place,
+        )
     } else {
         untried(out, line)
     }
@@ -362,12 +378,13 @@ fn go_to_home(
     alloc: Global,
     out: &mut Vec<Guarded>,
     steps: bool,
+    measuring: bool,
     line: u32,
     expansion: u32,
 ) -> Result<(), NoMemory>
-    ensures { OnOk result (out.new.items ≡ out.old.items ++ goes_home steps line expansion) }
+    ensures { OnOk result (out.new.items ≡ out.old.items ++ goes_home steps measuring line expansion) }
 {
-    ask(out, line, home_asks(alloc)?)?;
+    ask(out, line, within(alloc, measuring, home_asks(alloc)?)?)?;
     go(alloc, out, line)?;
     stand(out, line, expansion, Form::Home)?;
     lose_track(out, steps, line)?;
@@ -380,18 +397,20 @@ pub(crate) fn go_home(
     out: &mut Vec<Guarded>,
     from: bool,
     steps: bool,
+    measuring: bool,
     line: u32,
     expansion: u32,
 ) -> Result<(), NoMemory>
-    ensures { OnOk result (out.new.items ≡ out.old.items ++ homes from steps line expansion) }
+    ensures { OnOk result (out.new.items ≡ out.old.items ++ homes from steps measuring line expansion) }
 {
     if !from {
-        return go_to_home(alloc, out, steps, line, expansion);
+        return go_to_home(alloc, out, steps, measuring, line, expansion);
     }
     stand(out, line, 0, Form::Test(is_current(alloc, Carried::Home)?))?;
-    go_to_home(alloc, out, steps, line, expansion)?;
+    go_to_home(alloc, out, steps, measuring, line, expansion)?;
     elsewhere(out, line)?;
-    go_to_kept(alloc, out, steps, line, Kept::Home, &motion_asks(alloc)?)?;
+    let asked = within(alloc, measuring, motion_asks(alloc)?)?;
+    go_to_kept(alloc, out, steps, line, Kept::Home, &asked)?;
     end(out, line)
 }
 
@@ -401,12 +420,13 @@ pub(crate) fn go_to_target(
     out: &mut Vec<Guarded>,
     spots: bool,
     steps: bool,
+    measuring: bool,
     line: u32,
 ) -> Result<(), NoMemory>
-    ensures { OnOk result (out.new.items ≡ out.old.items ++ reaches_target spots steps line) }
+    ensures { OnOk result (out.new.items ≡ out.old.items ++ reaches_target spots steps measuring line) }
 {
     if spots {
-        let asked = aimed_asks(alloc, true)?;
+        let asked = within(alloc, measuring, aimed_asks(alloc, true)?)?;
         go_to_kept(alloc, out, steps, line, Kept::Target, &asked)
     } else {
         untried(out, line)
@@ -456,14 +476,16 @@ fn step_asks(alloc: Global) -> Result<Expr, NoMemory>
 fn step_known(
     alloc: Global,
     out: &mut Vec<Guarded>,
+    measuring: bool,
     line: u32,
     names: &Names,
     step: &Coordinates,
     place: Coordinates,
 ) -> Result<(), NoMemory>
-    ensures { OnOk result (out.new.items ≡ out.old.items ++ steps_known line names.now step.now place) }
+    ensures { OnOk result (out.new.items ≡ out.old.items ++ steps_known measuring line names.now step.now place) }
 {
-    ask_point(alloc, out, line, names, step_asks(alloc)?, step)?;
+    let asked = within(alloc, measuring, step_asks(alloc)?)?;
+    ask_point(alloc, out, line, names, asked, step)?;
     go_and_track(alloc, out, true, line, 0, place)?;
     gone(out, line)
 }
@@ -472,18 +494,19 @@ fn step_known(
 pub(crate) fn step_by(
     alloc: Global,
     out: &mut Vec<Guarded>,
+    measuring: bool,
     line: u32,
     names: &Names,
     op: BinaryOp,
     step: &Coordinates,
 ) -> Result<(), NoMemory>
-    ensures { OnOk result (out.new.items ≡ out.old.items ++ steps_by line names.now op step.now) }
+    ensures { OnOk result (out.new.items ≡ out.old.items ++ steps_by measuring line names.now op step.now) }
 {
     if !has_place(alloc, names, step)? {
         return untried(out, line);
     }
     match step_place(alloc, op, step)? {
-        Some(place) => step_known(alloc, out, line, names, step, place),
+        Some(place) => step_known(alloc, out, measuring, line, names, step, place),
         None => untried(out, line),
     }
 }

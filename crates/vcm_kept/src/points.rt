@@ -12,6 +12,7 @@ ghost use Rattle.vcm_templates.specs.Templates.{stands, elsewhere, ends, set_ite
 ghost use Rattle.vcm_kept.specs.Places.{has_place, loses_track};
 ghost use Rattle.vcm_kept.specs.Guarding.{is_declared, is_nominal, is_measured, point, direction_asks, point_goes, own_point, touches_declared, touches_itself, touches_at, touches, measures, touched_once, touched_here, keeps_point, measured_index, leaves_points, counts_points, measured, nominal_where, with_known, direction_of, sets_direction, keeps_direction, declares_direction, features_at, declares_feature, feature_gone, features_in, features};
 
+use crate::datums::{declare_bound, unbind};
 use crate::places::{
     ask_place, ask_point, has_place, length_asks, lose_track, place_again, point_asks,
 };
@@ -269,10 +270,11 @@ fn touched_here(alloc: Global) -> Result<Expr, NoMemory>
 fn keep_point(
     alloc: Global,
     out: &mut Vec<Guarded>,
+    datums: bool,
     line: u32,
     index: Option<u16>,
 ) -> Result<(), NoMemory>
-    ensures { OnOk result (out.new.items ≡ out.old.items ++ keeps_point line index) }
+    ensures { OnOk result (out.new.items ≡ out.old.items ++ keeps_point datums line index) }
 {
     let Some(index) = index else {
         return Ok(());
@@ -281,7 +283,8 @@ fn keep_point(
     set_item(out, line, Item::Measured, index, in_frame(alloc)?)?;
     elsewhere(out, line)?;
     lose_item(out, line, Item::Measured, index)?;
-    end(out, line)
+    end(out, line)?;
+    unbind(out, datums, line, index)
 }
 
 // Points that were asked for and don't stand there aren't tried.
@@ -332,14 +335,16 @@ fn leave_points(alloc: Global, out: &mut Vec<Guarded>, line: u32) -> Result<(), 
 pub(crate) fn end_measure(
     alloc: Global,
     out: &mut Vec<Guarded>,
+    datums: bool,
     line: u32,
     declared: &Titles,
     measuring: &Option<Name>,
 ) -> Result<(), NoMemory>
-    ensures { OnOk result (out.new.items ≡ out.old.items ++ measured line declared.now measuring.now) }
+    ensures { OnOk result (out.new.items ≡ out.old.items ++ measured datums line declared.now measuring.now) }
 {
     count_points(alloc, out, line, measuring)?;
-    keep_point(alloc, out, line, measured_index(declared, measuring))?;
+    let index = measured_index(declared, measuring);
+    keep_point(alloc, out, datums, line, index)?;
     leave_points(alloc, out, line)?;
     know(out, line, Carried::Qualification)?;
     set_number(out, line, Carried::Wanted, 0)
@@ -464,18 +469,20 @@ fn declare_carried(
     alloc: Global,
     out: &mut Vec<Guarded>,
     pointed: bool,
+    datums: bool,
     line: u32,
     index: u16,
     was: Option<u16>,
 ) -> Result<(), NoMemory>
-    ensures { OnOk result (out.new.items ≡ out.old.items ++ declares_feature pointed line index was) }
+    ensures { OnOk result (out.new.items ≡ out.old.items ++ declares_feature pointed datums line index was) }
 {
     match was {
         Some(_) => Ok(()),
         None => {
             declare_item(alloc, out, line, Item::Measured, index)?;
             declare_item(alloc, out, line, Item::Nominal, index)?;
-            declare_direction(alloc, out, pointed, line, index)
+            declare_direction(alloc, out, pointed, line, index)?;
+            declare_bound(alloc, out, datums, line, index)
         }
     }
 }
@@ -498,6 +505,7 @@ fn declare_new(
     alloc: Global,
     out: &mut Vec<Guarded>,
     pointed: bool,
+    datums: bool,
     line: u32,
     expansion: u32,
     names: &Names,
@@ -507,7 +515,7 @@ fn declare_new(
     axis: Axis,
 ) -> Result<(), NoMemory>
     requires { index_of declared.old label ≡ None }
-    ensures put { OnOk result (out.new.items ≡ out.old.items ++ features_in pointed line expansion names.now declared.old label place axis (entered declared.old label)) }
+    ensures put { OnOk result (out.new.items ≡ out.old.items ++ features_in pointed datums line expansion names.now declared.old label place axis (entered declared.old label)) }
     ensures declared { OnOk result (declared.new ≡ with_known declared.old label) }
 {
     if declared.len() >= MOST_NAMES {
@@ -515,7 +523,7 @@ fn declare_new(
     }
     match declared.enter(line, label.copy()) {
         Ok(index) => {
-            declare_carried(alloc, out, pointed, line, index, None)?;
+            declare_carried(alloc, out, pointed, datums, line, index, None)?;
             declare_at(
                 alloc, out, pointed, line, expansion, names, label, place, axis, index,
             )
@@ -529,6 +537,7 @@ fn declare_in(
     alloc: Global,
     out: &mut Vec<Guarded>,
     pointed: bool,
+    datums: bool,
     line: u32,
     expansion: u32,
     names: &Names,
@@ -537,7 +546,7 @@ fn declare_in(
     place: Coordinates,
     axis: Axis,
 ) -> Result<(), NoMemory>
-    ensures put { OnOk result (out.new.items ≡ out.old.items ++ features_in pointed line expansion names.now declared.old label place axis (entered declared.old label)) }
+    ensures put { OnOk result (out.new.items ≡ out.old.items ++ features_in pointed datums line expansion names.now declared.old label place axis (entered declared.old label)) }
     ensures declared { OnOk result (declared.new ≡ with_known declared.old label) }
 {
     match index_among(declared, &label) {
@@ -545,7 +554,7 @@ fn declare_in(
             alloc, out, pointed, line, expansion, names, label, place, axis, index,
         ),
         None => declare_new(
-            alloc, out, pointed, line, expansion, names, declared, label, place, axis,
+            alloc, out, pointed, datums, line, expansion, names, declared, label, place, axis,
         ),
     }
 }
@@ -555,6 +564,7 @@ pub(crate) fn declare(
     alloc: Global,
     out: &mut Vec<Guarded>,
     pointed: bool,
+    datums: bool,
     line: u32,
     expansion: u32,
     names: &Names,
@@ -563,12 +573,12 @@ pub(crate) fn declare(
     place: Coordinates,
     axis: Axis,
 ) -> Result<(), NoMemory>
-    ensures put { OnOk result (out.new.items ≡ out.old.items ++ features pointed line expansion names.now declared.old label place axis) }
+    ensures put { OnOk result (out.new.items ≡ out.old.items ++ features pointed datums line expansion names.now declared.old label place axis) }
     ensures declared { OnOk result (declared.new ≡ (if has_place names.now place then with_known declared.old label else declared.old)) }
 {
     if has_place(alloc, names, &place)? {
         declare_in(
-            alloc, out, pointed, line, expansion, names, declared, label, place, axis,
+            alloc, out, pointed, datums, line, expansion, names, declared, label, place, axis,
         )
     } else {
         feature_gone(out, line, index_among(declared, &label))

@@ -7,12 +7,16 @@ use crate::effects::Effects;
 use vcm_items::BoundedStack;
 use vcm_num::DEEPEST_BLOCKS;
 
-/// A block that is open, by the line that opens it: that of a choice, or the body of a loop whose variable stands at an index; how many variables were set before
-/// it, and what its statements may do.
+/// The greatest depth that is told apart: deeper blocks are refused.
+pub const MOST_DEPTH: u16 = 32;
+
+/// A block that is open, by the line that opens it: that of a choice, or the body of a loop whose variable stands at an index; how deep it is, how many variables
+/// were set before it, and what its statements may do.
 #[derive(Clone, Copy, Default)]
 pub struct OpenBlock {
     pub line: u32,
     pub index: Option<u16>,
+    pub depth: u16,
     pub since: usize,
     pub effects: Effects,
 }

@@ -19,6 +19,10 @@ pub struct Text {
     pub pointed: bool,
     /// It has polar places, or angles in another unit than decimal degrees.
     pub polar: bool,
+    /// It has datums, or frames by them.
+    pub datums: bool,
+    /// One of its CASEs has several values.
+    pub several: bool,
     /// It has values that may be cut off.
     pub cut: bool,
 }

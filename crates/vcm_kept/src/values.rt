@@ -3,12 +3,15 @@
 ghost use Rattle.std.specs.Prelude.{◌≡◌, ◌++◌, ◌∷◌, [], Some, None, OnOk, IfOk, List};
 ghost use Rattle.vcm_items.specs.Names.{variable_of};
 ghost use Rattle.vcm_program.specs.Titles.{index_of};
-ghost use Rattle.vcm_kept.specs.Guarding.{is_here, obtains_by, obtains_here, unreported, reports_at};
+ghost use Rattle.vcm_kept.specs.Guarding.{is_here, obtains_by, obtains_here, queries, unreported, reports_at};
+ghost use Rattle.vcm_events.specs.Events.{event_named};
 
+use crate::datums::{bind, originate};
 use crate::places::length_asks;
 use crate::points::{index_among, is_measured, is_nominal};
 use crate::variables::{lose_variable, otherwise_lose};
 use std::alloc::Global;
+use vcm_events::Event;
 use vcm_expr::{Expr, Names};
 use vcm_forms::{Form, Target};
 use vcm_items::Name;
@@ -57,8 +60,8 @@ fn obtain_here(
     otherwise_lose(out, line, index)
 }
 
-/// OBTAIN.
-pub(crate) fn obtain(
+// OBTAIN.
+fn obtain(
     alloc: Global,
     out: &mut Vec<Guarded>,
     line: u32,
@@ -80,6 +83,30 @@ pub(crate) fn obtain(
             alloc, out, line, expansion, names, target, side, label, word, index, feature,
         ),
         _ => lose_variable(out, line, index),
+    }
+}
+
+/// OBTAIN, or a statement about a datum.
+pub(crate) fn query(
+    alloc: Global,
+    out: &mut Vec<Guarded>,
+    line: u32,
+    expansion: u32,
+    names: &Names,
+    declared: &Titles,
+    target: Target,
+    side: Source,
+    label: Name,
+    word: FeatureWord,
+) -> Result<(), NoMemory>
+    ensures { OnOk result (out.new.items ≡ out.old.items ++ queries line expansion names.now declared.now target side label word (event_named target.name)) }
+{
+    match Event::named(target.name.as_bytes()) {
+        Some(Event::Bind) => bind(out, line, declared, &label),
+        Some(Event::Origin) => originate(alloc, out, line, expansion, declared, label, word),
+        _ => obtain(
+            alloc, out, line, expansion, names, declared, target, side, label, word,
+        ),
     }
 }
 

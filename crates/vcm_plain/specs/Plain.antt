@@ -1,6 +1,6 @@
 -- A text with its lengths as whole micrometres.
-use Rattle.std.specs.Prelude.{ℕ, suc, codes, ◌==◌, Bool, true, false, not, ◌&&◌, ◌||◌, nat_eq, nat_lt, if◌then◌else◌, List, [], ◌∷◌, ◌++◌, map, Option, Some, None}
-use Rattle.std.specs.List.{list_any, list_all, filter}
+use Rattle.std.specs.Prelude.{ℕ, suc, codes, ◌==◌, Bool, true, false, not, ◌&&◌, ◌||◌, nat_eq, nat_lt, if◌then◌else◌, List, [], ◌∷◌, ◌++◌, map}
+use Rattle.std.specs.List.{list_all, filter}
 use Rattle.std.specs.Str.{bytes_eq}
 use Rattle.vcm_num.specs.Words.{look_up}
 use Rattle.vcm_lines.specs.Bytes.{upper}
@@ -15,6 +15,7 @@ use Rattle.vcm_plain.specs.declared.plain.Kind.TheVariants as kind
 use Rattle.vcm_plain.specs.declared.plain.Place.{Place}
 use Rattle.vcm_plain.specs.Numbers.{unread, lone_from, is_lone, is_space, rounded, written_or}
 use Rattle.vcm_plain.specs.Units.{micrometres, is_same_unit}
+use Rattle.vcm_plain.specs.Fine.{exact_text}
 
 -- ---- where the reading of a text stands
 
@@ -45,6 +46,11 @@ kind_of word = found_or kind.Other (look_up
     ∷ (codes "TRANS", kind.Lengths)
     ∷ (codes "SNSET", kind.Lengths)
     ∷ (codes "UNITS", kind.Units)
+    ∷ (codes "ASSIGN", kind.Values)
+    ∷ (codes "IF", kind.Values)
+    ∷ (codes "DO", kind.Values)
+    ∷ (codes "SELECT", kind.Values)
+    ∷ (codes "CALL", kind.Values)
     ∷ []) word)
 
 -- whether a text's lengths are micrometres as they are, rounded at most
@@ -92,6 +98,14 @@ is_kept_word bs = is_kept (word_of bs)
 abbrev pub other_field : Unit → List ℕ → List ℕ
 other_field u bs = if is_plain_unit u || is_kept_word bs then bs else 42 ∷ bs
 
+-- a field that is an expression, or a word: in the language's unit numbers with more than three decimals are written as quotients
+abbrev pub expression_field : Unit → List ℕ → List ℕ
+expression_field u bs = if is_plain_unit u then exact_text bs else other_field u bs
+
+-- a field of values, in any unit; one that is broken in two stays
+abbrev pub value_field : Bool → List ℕ → List ℕ
+value_field broken bs = if broken then bs else exact_text bs
+
 -- how many micrometres one of a statement's numbers has, behind so many of them: the first three of a place are lengths, those behind are a direction
 abbrev pub unit_at : Kind → ℕ → Unit → ℕ
 unit_at kind.Places n u = if nat_lt n 3 then micrometres u else 1000
@@ -110,7 +124,7 @@ number_field u k n bs l =
 
 -- a field of lengths
 abbrev pub length_field : Unit → Kind → ℕ → List ℕ → Lone → List ℕ
-length_field u k n bs l = if is_lone l then number_field u k n bs l else other_field u bs
+length_field u k n bs l = if is_lone l then number_field u k n bs l else expression_field u bs
 
 -- the first field of UNITS: the unit is the language's
 abbrev pub units_field : Bool → Unit → List ℕ → List ℕ
@@ -120,6 +134,7 @@ units_field first u bs = if first && not (is_plain_unit u) then codes "MM" else 
 abbrev pub field_by : Kind → Place → Unit → List ℕ → List ℕ
 field_by kind.Other p u bs = bs
 field_by kind.Units p u bs = units_field p.first u bs
+field_by kind.Values p u bs = value_field p.broken bs
 field_by k p u bs = if p.broken then other_field u bs else length_field u k p.numbers bs (lone_from unread bs)
 
 -- the field that is open, as it is written

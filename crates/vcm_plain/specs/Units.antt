@@ -48,6 +48,7 @@ is_units r = false
 -- whether a row is that of words that move nothing and say no length
 abbrev pub is_silent : Row → Bool
 is_silent row.Silent = true
+is_silent row.Datum = true
 is_silent row.Plane = true
 is_silent r = false
 

@@ -168,8 +168,8 @@ pub(crate) fn lone_of(bytes: &[u8]) -> Lone
     lone
 }
 
-// 10 to this power, up to 6.
-fn power(places: u32) -> u64
+/// 10 to this power, up to 6.
+pub(crate) fn power(places: u32) -> u64
     ensures is { result ≡ power places }
     ensures most { result ≤ 1000000 }
     ensures least { 1 ≤ result }

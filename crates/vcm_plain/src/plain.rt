@@ -2,8 +2,9 @@
 
 ghost use Rattle.std.specs.Prelude.{◌≡◌, ◌++◌, ◌∷◌, [], ◌≤◌, ◌<◌, ℕ, List, true, OnOk, IfOk, drop};
 ghost use Rattle.vcm_plain.specs.Numbers.{unread, lone_from, is_lone, is_space};
-ghost use Rattle.vcm_plain.specs.Plain.{Reading, start, word_of, kind_of, is_plain_unit, head_out, is_kind_word, is_setting_word, is_kept, is_kept_word, other_field, unit_at, is_angle, number_field, length_field, units_field, field_by, field_out, counted, kind_behind, next_field, is_blank_field, onto, wrote, head_behind, head_dollar_behind, fields_behind, broken_place, broken_out, fields_dollar_behind, text_behind, comment_behind, broken_behind, field_text_behind, read_behind, read_from, nothing_read, last_out, written_out, plain};
+ghost use Rattle.vcm_plain.specs.Plain.{Reading, start, word_of, kind_of, is_plain_unit, head_out, is_kind_word, is_setting_word, is_kept, is_kept_word, other_field, expression_field, value_field, unit_at, is_angle, number_field, length_field, units_field, field_by, field_out, counted, kind_behind, next_field, is_blank_field, onto, wrote, head_behind, head_dollar_behind, fields_behind, broken_place, broken_out, fields_dollar_behind, text_behind, comment_behind, broken_behind, field_text_behind, read_behind, read_from, nothing_read, last_out, written_out, plain};
 
+use crate::fine::put_exact;
 use crate::lone::{Lone, is_lone, lone_of, put_lone};
 use crate::unit::Unit;
 use std::alloc::Global;
@@ -46,6 +47,8 @@ pub enum Kind {
     Polar,
     /// Lengths, all of them.
     Lengths,
+    /// Values, by expressions.
+    Values,
 }
 
 /// Where a byte of a text stands.
@@ -116,6 +119,11 @@ fn kind_of(word: &[u8]) -> Kind
             (b"TRANS", Kind::Lengths),
             (b"SNSET", Kind::Lengths),
             (b"UNITS", Kind::Units),
+            (b"ASSIGN", Kind::Values),
+            (b"IF", Kind::Values),
+            (b"DO", Kind::Values),
+            (b"SELECT", Kind::Values),
+            (b"CALL", Kind::Values),
         ],
         word,
     )
@@ -205,6 +213,22 @@ fn put_other(alloc: Global, unit: Unit, bytes: &[u8], out: &mut Vec<u8>) -> Resu
     Ok(())
 }
 
+// Appends a field that is an expression, or a word.
+fn put_expression(
+    alloc: Global,
+    unit: Unit,
+    bytes: &[u8],
+    out: &mut Vec<u8>,
+) -> Result<(), NoMemory>
+    ensures { OnOk result (out.new.items ≡ out.old.items ++ expression_field unit bytes.now) }
+{
+    if is_plain_unit(unit) {
+        put_exact(alloc, bytes, out)
+    } else {
+        put_other(alloc, unit, bytes, out)
+    }
+}
+
 // How many micrometres one of a statement's numbers has, behind so many of them.
 fn unit_at(kind: Kind, numbers: u8, unit: Unit) -> u64
     ensures is { result ≡ unit_at kind numbers unit }
@@ -260,7 +284,7 @@ fn put_lengths(
     if is_lone(lone) {
         put_number(unit, place.kind, place.numbers, bytes, lone, out)
     } else {
-        put_other(alloc, unit, bytes, out)
+        put_expression(alloc, unit, bytes, out)
     }
 }
 
@@ -274,6 +298,18 @@ fn put_units(unit: Unit, first: bool, bytes: &[u8], out: &mut Vec<u8>) -> Result
         out.extend_from_slice(bytes)?;
     }
     Ok(())
+}
+
+// Appends a field of values.
+fn put_value(alloc: Global, broken: bool, bytes: &[u8], out: &mut Vec<u8>) -> Result<(), NoMemory>
+    ensures { OnOk result (out.new.items ≡ out.old.items ++ value_field broken bytes.now) }
+{
+    if broken {
+        out.extend_from_slice(bytes)?;
+        Ok(())
+    } else {
+        put_exact(alloc, bytes, out)
+    }
 }
 
 // Appends a field that is open.
@@ -292,6 +328,7 @@ fn put_field(
             Ok(())
         }
         Kind::Units => put_units(unit, place.first, bytes, out),
+        Kind::Values => put_value(alloc, place.broken, bytes, out),
         Kind::Places | Kind::Polar | Kind::Lengths => {
             if place.broken {
                 put_other(alloc, unit, bytes, out)
@@ -582,7 +619,8 @@ impl Reader {
 }
 
 /// A text of this unit with its lengths as whole micrometres, line by line: in fields of places, lengths and settings a number with more than three decimals is rounded, and in
-/// another unit than millimetres each is converted; there a field that is no number is put as one that isn't known.
+/// another unit than millimetres each is converted; there a field that is no number is put as one that isn't known. In expressions a number with more than three decimals
+/// is written as a quotient.
 ///
 /// # Errors
 ///

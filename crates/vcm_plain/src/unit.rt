@@ -62,7 +62,7 @@ fn is_units(row: Row) -> bool
 fn is_silent(row: Row) -> bool
     ensures { result ≡ is_silent row }
 {
-    matches!(row, Row::Silent | Row::Plane)
+    matches!(row, Row::Silent | Row::Datum | Row::Plane)
 }
 
 // The unit that the fields of UNITS set.

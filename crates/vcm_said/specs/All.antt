@@ -7,9 +7,8 @@ use Rattle.vcm_syntax.specs.Statements.{statement_of}
 use Rattle.vcm_forms.specs.declared.statement.Form.{Form}
 use Rattle.vcm_forms.specs.declared.statement.Form.TheVariants.{Opening, Measures}
 use Rattle.vcm_forms.specs.declared.statement.Statement.{Statement}
-use Rattle.vcm_heads.specs.declared.rows.Row.{Row}
-use Rattle.vcm_heads.specs.declared.rows.Row.TheVariants.{Shape}
 use Rattle.vcm_heads.specs.Rows.{row_in, words_of, own_behind}
+use Rattle.vcm_said.specs.Cases.{is_shaping}
 use Rattle.vcm_said.specs.Said.{said}
 
 -- forms as statements of a line
@@ -30,10 +29,14 @@ said_from own (l ∷ ls) = said_unless own l ++ said_from (own_behind own (words
 abbrev pub said_all : List Logical → List Statement
 said_all ls = on_line 1 (Opening ∷ Measures ∷ []) ++ said_from false ls
 
+-- the fault of a statement on a line that is none of the language, where it is refused for that
+abbrev pub shape_fault : ℕ → Bool → Result Form FaultCode → Option SourceFault
+shape_fault line true (Err c) = Some (record { code = c; line = line })
+shape_fault line shaping r = None
+
 -- the fault of a statement that shapes the program and is none of the language
-abbrev pub shape_fault : ℕ → Row → Result Form FaultCode → Option SourceFault
-shape_fault line Shape (Err c) = Some (record { code = c; line = line })
-shape_fault line row r = None
+abbrev pub refused_at : Logical → Option SourceFault
+refused_at l = shape_fault l.line (is_shaping (row_in (words_of l)) (words_of l)) (statement_of (words_of l))
 
 -- a fault that was found, or else what is found behind it
 abbrev pub fault_or : Option SourceFault → Option SourceFault → Option SourceFault
@@ -43,6 +46,4 @@ fault_or (Some f) behind = Some f
 -- the first statement that shapes the program and is none of the language
 abbrev pub refused_from : Bool → List Logical → Option SourceFault
 refused_from own [] = None
-refused_from own (l ∷ ls) =
-    fault_or (if own then None else shape_fault l.line (row_in (words_of l)) (statement_of (words_of l)))
-    (refused_from (own_behind own (words_of l)) ls)
+refused_from own (l ∷ ls) = fault_or (if own then None else refused_at l) (refused_from (own_behind own (words_of l)) ls)

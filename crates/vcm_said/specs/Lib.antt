@@ -1,5 +1,6 @@
 pub mod Places
 pub mod Polar
+pub mod Cases
 pub mod Said
 pub mod All
 pub mod Samples

@@ -36,6 +36,7 @@ use Rattle.vcm_heads.specs.Rows.{row_in}
 use Rattle.vcm_events.specs.declared.spots.Spot.TheVariants as spots
 use Rattle.vcm_events.specs.Spots.{spotted}
 use Rattle.vcm_said.specs.Polar.{polar_motion, polar_touch}
+use Rattle.vcm_said.specs.Cases.{values_of, case_said}
 use Rattle.vcm_said.specs.Places.{place_given, step_at, slant_at, names_table, names_head}
 
 -- ---- what isn't known
@@ -281,6 +282,8 @@ saved word =
 -- what a statement says by its row: the statement of the language that it is, if it is one, its line, all its words, and those behind the major word
 abbrev pub row_said : Row → Option Form → ℕ → (ws behind : List Lexeme) → List Form
 row_said row.Shape f line ws behind = stated f
+row_said row.Case f line ws behind = case_said f (values_of ws)
+row_said row.Datum f line ws behind = one (gained events.Bind)
 row_said row.Stated f line ws behind = stated f
 row_said row.Output f line ws behind = or_said f (report_at (past marks.Slash behind))
 row_said row.Value f line ws behind = or_said f (value_lost (assigned_at ws))

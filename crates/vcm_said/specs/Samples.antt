@@ -13,7 +13,7 @@ use Rattle.vcm_expr.specs.Digits.{read_of}
 use Rattle.vcm_syntax.specs.Statements.{statement_of}
 use Rattle.vcm_forms.specs.Statements.{as_read}
 use Rattle.vcm_forms.specs.declared.statement.Form.{Form}
-use Rattle.vcm_forms.specs.declared.statement.Form.TheVariants.{Assignment, Test, Repeat, Choose, Feature, Measure, MeasureEnd, Configure, Shift, Restore, Move, Touch, Home, Report}
+use Rattle.vcm_forms.specs.declared.statement.Form.TheVariants.{Assignment, Case, Test, Repeat, Choose, Feature, Measure, MeasureEnd, Configure, Shift, Restore, Move, Touch, Home, Report}
 use Rattle.vcm_events.specs.declared.event.Event.TheVariants as events
 use Rattle.vcm_events.specs.Events.{valued, event_form, lost, gained}
 use Rattle.vcm_events.specs.Joined.{length_of}
@@ -21,6 +21,7 @@ use Rattle.vcm_events.specs.Unknown.{unknown, unknown_place, unknown_rounds}
 use Rattle.vcm_events.specs.declared.spots.Spot.TheVariants as spots
 use Rattle.vcm_events.specs.Spots.{spotted, slanted}
 use Rattle.vcm_said.specs.Polar.{along, across}
+use Rattle.vcm_said.specs.Cases.{values_onto}
 use Rattle.vcm_said.specs.Said.{said}
 
 -- what words say on line 9
@@ -46,6 +47,22 @@ micrometres n = Plain (Number (Thousandths (pos n)))
 -- a whole number
 abbrev pub whole : ℕ → Source
 whole n = Plain (Number (Int (pos n)))
+
+-- ---- CASE and DATDEF
+
+-- a CASE of the language, and where its block begins
+pub case : says (pair (codes "CASE") (codes "2")) ≡ Case (pos 2) ∷ gained events.CaseBegins ∷ []
+unfolding statement_of read_of
+case = refl
+
+-- one with several values
+pub cases : says (word (codes "CASE") ∷ Slash ∷ word (codes "1") ∷ Comma ∷ Minus ∷ word (codes "2") ∷ []) ≡ Case (pos 1) ∷ event_form events.CaseValue (negsuc 1) ∷ gained events.CaseBegins ∷ []
+unfolding statement_of read_symbols read_of values_onto
+cases = refl
+
+-- a datum is defined
+pub datum : says (word (codes "DATDEF") ∷ Slash ∷ titled (codes "FA") (Comma ∷ titled (codes "DAT") [])) ≡ gained events.Bind ∷ []
+datum = refl
 
 -- ---- what moves nothing and chooses nothing says nothing
 

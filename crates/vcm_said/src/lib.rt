@@ -2,6 +2,8 @@
 //! Each is looked at by itself.
 #![tactic(auto)]
 
+mod adding;
+mod cases;
 mod places;
 mod polar;
 mod said;

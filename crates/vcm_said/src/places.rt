@@ -137,8 +137,8 @@ fn part_below(number: i64) -> Option<i32>
     }
 }
 
-// Whether parts of an expression are a minus and nothing behind it.
-fn is_minus(pieces: &[Piece]) -> bool
+/// Whether parts of an expression are a minus and nothing behind it.
+pub(crate) fn is_minus(pieces: &[Piece]) -> bool
     ensures { result ≡ is_minus pieces.now }
 {
     match pieces.split_first() {

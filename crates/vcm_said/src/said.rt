@@ -16,16 +16,17 @@ ghost use Rattle.vcm_events.specs.Unknown.{unknown};
 ghost use Rattle.vcm_heads.specs.declared.heads.Mark.TheVariants as marks;
 ghost use Rattle.vcm_heads.specs.Heads.{past, first_field, assigned_at, title_at, word_in, major_of};
 ghost use Rattle.vcm_heads.specs.Rows.{row_in, words_of, own_behind};
-ghost use Rattle.vcm_said.specs.Said.{wanted_in, spelled_in, stated, or_said, turns, value_lost, answer_lost, asked_at, text_lost, call_said, feature_lost, measured_at, measure_lost, qualified, setting_said, settings_lost, is_clearance_off, settings_otherwise, settings_said, machine_frame, frame_lost, frame_otherwise, datum_at, recall_lost, recall_otherwise, turning, motion_otherwise, touch_otherwise, is_lone_label, is_plain_sensor, sensor_said, reported, report_at, mode_said, second_field_at, units_said, polar_said, polar_or, saved, row_said, said};
-ghost use Rattle.vcm_said.specs.All.{on_line, said_unless, said_from, said_all, shape_fault, refused_from};
+ghost use Rattle.vcm_said.specs.Said.{wanted_in, spelled_in, stated, or_said, value_lost, answer_lost, asked_at, text_lost, call_said, feature_lost, measured_at, measure_lost, qualified, setting_said, settings_lost, is_clearance_off, settings_otherwise, settings_said, machine_frame, frame_lost, frame_otherwise, datum_at, recall_lost, recall_otherwise, turning, motion_otherwise, touch_otherwise, is_lone_label, is_plain_sensor, sensor_said, reported, report_at, mode_said, second_field_at, units_said, polar_said, polar_or, saved, row_said, said};
+ghost use Rattle.vcm_said.specs.Cases.{is_shaping};
+ghost use Rattle.vcm_said.specs.All.{on_line, said_unless, said_from, said_all, shape_fault, refused_at, refused_from};
 
+use crate::adding::{add, gains, loses, turns};
+use crate::cases::{say_several, values_of};
 use crate::places::{names_head, names_table, place_given, slant_at, step_at};
 use crate::polar::{polar_motion, polar_touch};
 use crate::wanted::wanted;
 use std::alloc::Global;
-use vcm_events::{
-    Event, Spot, gained, lost, numbered, spotted, unknown, unknown_place, unknown_rounds, valued,
-};
+use vcm_events::{Event, Spot, numbered, spotted, unknown, unknown_place, unknown_rounds, valued};
 use vcm_expr::{Expr, Term};
 use vcm_forms::{Form, Offset, Statement, Target};
 use vcm_heads::{
@@ -37,39 +38,6 @@ use vcm_lines::{FaultCode, Logical, Phrase, SourceFault};
 use vcm_num::{Axis, Items, Literal, NoMemory, is};
 use vcm_spec::{FrameAxis, Setting, Source};
 use vcm_syntax::parse_statement;
-
-// One statement more.
-fn add(out: &mut Vec<Statement>, line: u32, form: Form) -> Result<(), NoMemory>
-    ensures { OnOk result (out.new.items ≡ out.old.items ++ on_line line (form ∷ [])) }
-{
-    out.push(Statement { line, form })?;
-    Ok(())
-}
-
-// Something is lost.
-fn loses(out: &mut Vec<Statement>, line: u32, event: Event) -> Result<(), NoMemory>
-    ensures { OnOk result (out.new.items ≡ out.old.items ++ on_line line (lost event ∷ [])) }
-{
-    add(out, line, lost(event))
-}
-
-// Something is known again, or happens.
-fn gains(out: &mut Vec<Statement>, line: u32, event: Event) -> Result<(), NoMemory>
-    ensures { OnOk result (out.new.items ≡ out.old.items ++ on_line line (gained event ∷ [])) }
-{
-    add(out, line, gained(event))
-}
-
-// Something is lost, or known again.
-fn turns(out: &mut Vec<Statement>, line: u32, event: Event, known: bool) -> Result<(), NoMemory>
-    ensures { OnOk result (out.new.items ≡ out.old.items ++ on_line line (turns event known ∷ [])) }
-{
-    if known {
-        gains(out, line, event)
-    } else {
-        loses(out, line, event)
-    }
-}
 
 // A variable whose value isn't known.
 fn lose_variable(out: &mut Vec<Statement>, line: u32, name: &[u8]) -> Result<(), NoMemory>
@@ -595,6 +563,8 @@ fn say_otherwise(
 {
     match row {
         Row::Shape | Row::Stated | Row::Silent => Ok(()),
+        Row::Case => say_several(alloc, out, line, words),
+        Row::Datum => gains(out, line, Event::Bind),
         Row::Output => say_report(out, line, behind),
         Row::Value => lose_value(out, line, words),
         Row::Motion => say_motion(alloc, out, line, behind),
@@ -634,6 +604,14 @@ fn say_otherwise(
     }
 }
 
+// CASE and DFTCAS of the language.
+fn say_case(out: &mut Vec<Statement>, line: u32, form: Form) -> Result<(), NoMemory>
+    ensures { OnOk result (out.new.items ≡ out.old.items ++ on_line line (form ∷ gained events.CaseBegins ∷ [])) }
+{
+    add(out, line, form)?;
+    gains(out, line, Event::CaseBegins)
+}
+
 // A statement that is one of the language, by its row.
 fn say_spelled(
     out: &mut Vec<Statement>,
@@ -647,6 +625,7 @@ fn say_spelled(
 {
     match row {
         Row::Call => add(out, line, form)?,
+        Row::Case => say_case(out, line, form)?,
         Row::Settings => say_settings(out, line, Some(form), behind)?,
         Row::Shape | Row::Stated | Row::Output | Row::Value => add(out, line, form)?,
         Row::Motion | Row::Touch => add(out, line, form)?,
@@ -707,25 +686,47 @@ pub fn say_all(alloc: Global, lines: &[Logical]) -> Result<Vec<Statement>, NoMem
     Ok(out)
 }
 
-// The fault of a statement that shapes the program and is none of the language.
-fn shape_fault(alloc: Global, logical: &Logical) -> Result<Option<SourceFault>, NoMemory>
-    ensures { IfOk result (λ f. f ≡ shape_fault logical.now.line (row_in (words_of logical.now)) (statement_of (words_of logical.now))) }
+// Whether a statement that is none of the language is refused.
+fn is_shaping(alloc: Global, logical: &Logical) -> Result<bool, NoMemory>
+    ensures { IfOk result (λ b. b ≡ is_shaping (row_in (words_of logical.now)) (words_of logical.now)) }
 {
     match row_of_statement(logical) {
-        Row::Shape => match parse_statement(alloc, logical) {
-            Ok(statement) => {
-                drop(statement);
-                Ok(None)
-            }
-            Err(fault) => match fault.code {
-                FaultCode::NoMemory => Err(NoMemory),
-                code => Ok(Some(SourceFault {
-                    code,
-                    line: logical.line,
-                })),
-            },
+        Row::Shape => Ok(true),
+        Row::Case => {
+            let values = values_of(alloc, &Phrase::of(logical))?;
+            Ok(values.is_none())
+        }
+        _ => Ok(false),
+    }
+}
+
+// The fault of a statement that is none of the language.
+fn fault_of(alloc: Global, logical: &Logical) -> Result<Option<SourceFault>, NoMemory>
+    ensures { IfOk result (λ f. f ≡ shape_fault logical.now.line true (statement_of (words_of logical.now))) }
+{
+    match parse_statement(alloc, logical) {
+        Ok(statement) => {
+            drop(statement);
+            Ok(None)
+        }
+        Err(fault) => match fault.code {
+            FaultCode::NoMemory => Err(NoMemory),
+            code => Ok(Some(SourceFault {
+                code,
+                line: logical.line,
+            })),
         },
-        _ => Ok(None),
+    }
+}
+
+// The fault of a statement that shapes the program and is none of the language.
+fn shape_fault(alloc: Global, logical: &Logical) -> Result<Option<SourceFault>, NoMemory>
+    ensures { IfOk result (λ f. f ≡ refused_at logical.now) }
+{
+    if is_shaping(alloc, logical)? {
+        fault_of(alloc, logical)
+    } else {
+        Ok(None)
     }
 }
 

@@ -1,1 +1,3 @@
+pub mod OneFault
+pub mod TextLines
 pub mod Turns

@@ -4,6 +4,7 @@
 mod adapting;
 mod faults;
 mod groups;
+pub mod laws;
 mod listing;
 mod reading;
 mod report;

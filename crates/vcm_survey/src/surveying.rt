@@ -1,11 +1,14 @@
 //! The survey of a text.
 
+ghost use Rattle.std.specs.Prelude.{◌≡◌};
+ghost use Rattle.vcm_survey.specs.Faults.{is_too_long, too_many};
+
 use crate::listing::{put_rows, whole_lines};
 use crate::reading::read_text;
 use crate::report::{count_of, put_all_groups, put_counts};
 use std::alloc::Global;
 use vcm_lines::{FaultCode, SourceFault};
-use vcm_num::NoMemory;
+use vcm_num::{MOST_STATEMENTS, NoMemory, whole_line};
 use vcm_rules::{Class, Options, Row, Surveyed};
 
 /// How a survey is told.
@@ -28,26 +31,28 @@ pub struct Findings {
     pub is_clean: bool,
 }
 
-/// The most lines of a text.
-const MOST_LINES: usize = 20_000;
-
-/// The refusal of a text with too many lines, or of a growth of memory.
-pub(crate) fn too_many() -> SourceFault {
+/// The refusal of a text with too many lines.
+pub(crate) fn too_many() -> SourceFault
+    ensures { result ≡ too_many }
+{
     SourceFault {
         code: FaultCode::TooManyLines,
-        line: 20_001,
+        line: MOST_STATEMENTS as u32 + 1,
     }
 }
 
-/// Whether a text has more than 20,000 lines.
-pub(crate) fn is_too_long(text: &[u8]) -> bool {
-    let count = text.iter().filter(|byte| **byte == b'\n').count();
-    let is_open = text.last().is_some_and(|byte| *byte != b'\n');
-    if is_open {
-        count >= MOST_LINES
-    } else {
-        count > MOST_LINES
+/// Whether a text has more lines than a program may have.
+pub(crate) fn is_too_long(text: &[u8]) -> bool
+    ensures { result ≡ is_too_long text.now }
+{
+    let mut rest = text;
+    for count in 0..MOST_STATEMENTS {
+        if rest.is_empty() {
+            return false;
+        }
+        rest = whole_line(rest).1;
     }
+    !rest.is_empty()
 }
 
 // Whether all statements fit or have a notice.

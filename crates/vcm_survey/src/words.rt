@@ -1,33 +1,30 @@
 //! Words of a survey.
 
+ghost use Rattle.std.specs.Prelude.{◌≡◌};
+ghost use Rattle.vcm_survey.specs.Faults.{fault_words};
+
 use vcm_lines::FaultCode;
 use vcm_rules::{Caution, Class};
 
-// The codes that a line or a statement may have, and their names.
-const FAULTS: &[(FaultCode, &str)] = &[
-    (FaultCode::BadByte, "E01 BadByte"),
-    (FaultCode::LineTooLong, "E02 LineTooLong"),
-    (FaultCode::TooManyLines, "E03 TooManyLines"),
-    (FaultCode::DanglingContinuation, "E04 DanglingContinuation"),
-    (FaultCode::UnknownStatement, "E05 UnknownStatement"),
-    (FaultCode::BadSyntax, "E06 BadSyntax"),
-    (FaultCode::TooFine, "E07 TooFine"),
-    (FaultCode::NumberTooLarge, "E08 NumberTooLarge"),
-    (FaultCode::TooDeep, "E09 TooDeep"),
-    (FaultCode::NotQuarterTurn, "E10 NotQuarterTurn"),
-    (FaultCode::NotAxis, "E11 NotAxis"),
-    (FaultCode::BadArguments, "E19 BadArguments"),
-    (FaultCode::Unsupported, "E22 Unsupported"),
-];
-
 /// The code and the name of a fault of a line or a statement.
-pub fn fault_words(code: FaultCode) -> &'static str {
-    for row in FAULTS {
-        if row.0 as u8 == code as u8 {
-            return row.1;
-        }
+pub fn fault_words(code: FaultCode) -> &'static str
+    ensures { result.now ≡ fault_words code }
+{
+    match code {
+        FaultCode::BadByte => "E01 BadByte",
+        FaultCode::LineTooLong => "E02 LineTooLong",
+        FaultCode::TooManyLines => "E03 TooManyLines",
+        FaultCode::DanglingContinuation => "E04 DanglingContinuation",
+        FaultCode::UnknownStatement => "E05 UnknownStatement",
+        FaultCode::TooFine => "E07 TooFine",
+        FaultCode::NumberTooLarge => "E08 NumberTooLarge",
+        FaultCode::TooDeep => "E09 TooDeep",
+        FaultCode::NotQuarterTurn => "E10 NotQuarterTurn",
+        FaultCode::NotAxis => "E11 NotAxis",
+        FaultCode::BadArguments => "E19 BadArguments",
+        FaultCode::Unsupported => "E22 Unsupported",
+        _ => "E06 BadSyntax",
     }
-    "E06 BadSyntax"
 }
 
 /// The class as a group has it for its heading.

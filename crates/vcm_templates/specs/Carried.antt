@@ -48,8 +48,10 @@ carried_name carried.TargetFrame = codes "TARGETFRAME"
 carried_name carried.ProbeFrame = codes "PROBEFRAME"
 carried_name carried.Angle = codes "ANGLE"
 carried_name carried.Plane = codes "PLANE"
+carried_name carried.Straight = codes "STRAIGHT"
+carried_name carried.Origins = codes "ORIGINS"
 
--- the names of what is carried of each variable, frame and feature of the text; their expansions tell them apart
+-- the names of what is carried of each variable, frame, feature and SELECT of the text; their expansions tell them apart
 abbrev pub item_name : Item → List ℕ
 item_name items.Known = codes "KNOWN"
 item_name items.Saved = codes "SAVED"
@@ -59,6 +61,10 @@ item_name items.AlongX = codes "ALONGX"
 item_name items.AlongY = codes "ALONGY"
 item_name items.AlongZ = codes "ALONGZ"
 item_name items.Beside = codes "BESIDE"
+item_name items.Bound = codes "BOUND"
+item_name items.Axes = codes "AXES"
+item_name items.Chosen = codes "CHOSEN"
+item_name items.Open = codes "OPEN"
 
 -- what is carried, as the target of an assignment
 abbrev pub carried_target : Carried → Target
@@ -111,6 +117,10 @@ length_name lengths.ProbeZ = codes "PROBEZ"
 length_name lengths.Approach = codes "APPROACHLENGTH"
 length_name lengths.Retract = codes "RETRACTLENGTH"
 length_name lengths.Tip = codes "TIPLENGTH"
+length_name lengths.Along = codes "ALONG"
+length_name lengths.OriginX = codes "ORIGINX"
+length_name lengths.OriginY = codes "ORIGINY"
+length_name lengths.OriginZ = codes "ORIGINZ"
 
 -- a length as the target of an assignment
 abbrev pub length_target : Length → Target

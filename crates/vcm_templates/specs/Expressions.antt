@@ -3,7 +3,7 @@ use Rattle.std.specs.Prelude.{ℕ, ℤ, pos, Bool, true, false, if◌then◌else
 use Rattle.vcm_num.specs.declared.number.Literal.TheVariants.{Int}
 use Rattle.vcm_lines.specs.declared.fault.FaultCode.{FaultCode}
 use Rattle.vcm_spec.specs.declared.expression.BinaryOp.{BinaryOp}
-use Rattle.vcm_spec.specs.declared.expression.BinaryOp.TheVariants.{Add, And, Compare}
+use Rattle.vcm_spec.specs.declared.expression.BinaryOp.TheVariants.{Add, And, Or, Compare}
 use Rattle.vcm_spec.specs.declared.expression.Relation.TheVariants.{Equal, NotEqual}
 use Rattle.vcm_spec.specs.Setup.{Variable}
 use Rattle.vcm_expr.specs.declared.expression.Term.{Term}
@@ -31,6 +31,10 @@ truth b = Plain (Truth b)
 -- both of two truth values; what gets too large is false, so that nothing is tried
 abbrev pub both : Source → Source → Source
 both a b = if is_small (Pair And a b) then Pair And a b else truth false
+
+-- one of two truth values; what gets too large is false, so that nothing is tried
+abbrev pub either : Source → Source → Source
+either a b = if is_small (Pair Or a b) then Pair Or a b else truth false
 
 -- what is carried is known: it came to be known in this epoch
 abbrev pub is_current : Carried → Source

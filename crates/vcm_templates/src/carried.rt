@@ -81,6 +81,10 @@ pub enum Carried {
     Angle,
     /// Polar places are in the plane of X and Y.
     Plane,
+    /// 1 where the axes of the current frame are the machine's.
+    Straight,
+    /// 1 where all origins of the frame that is made are known so far.
+    Origins,
 }
 
 impl Carried {
@@ -120,6 +124,8 @@ impl Carried {
             Carried::ProbeFrame => b"PROBEFRAME",
             Carried::Angle => b"ANGLE",
             Carried::Plane => b"PLANE",
+            Carried::Straight => b"STRAIGHT",
+            Carried::Origins => b"ORIGINS",
         }
     }
 
@@ -148,7 +154,7 @@ impl Carried {
     }
 }
 
-/// What is carried of each variable, frame and feature of the text.
+/// What is carried of each variable, frame, feature and SELECT of the text.
 #[derive(Clone, Copy)]
 pub enum Item {
     /// The epoch in which a variable's value came to be known.
@@ -165,6 +171,14 @@ pub enum Item {
     AlongZ,
     /// How far a variable's value may lie from the machine's.
     Beside,
+    /// The number of the frame in which a feature was measured when it became a datum last, 0 where it was measured since.
+    Bound,
+    /// 1 where the axes of a frame that is saved are the machine's.
+    Axes,
+    /// The value of a SELECT within so many blocks.
+    Chosen,
+    /// 1 where no block of that SELECT was taken yet.
+    Open,
 }
 
 impl Item {
@@ -181,6 +195,10 @@ impl Item {
             Item::AlongY => b"ALONGY",
             Item::AlongZ => b"ALONGZ",
             Item::Beside => b"BESIDE",
+            Item::Bound => b"BOUND",
+            Item::Axes => b"AXES",
+            Item::Chosen => b"CHOSEN",
+            Item::Open => b"OPEN",
         }
     }
 

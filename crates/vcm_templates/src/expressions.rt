@@ -4,7 +4,7 @@ ghost use Rattle.std.specs.Prelude.{◌≡◌, true, false, IfOk};
 ghost use Rattle.vcm_expr.specs.Source.{Pair, Plain};
 ghost use Rattle.vcm_spec.specs.declared.expression.BinaryOp.TheVariants.{Compare};
 ghost use Rattle.vcm_spec.specs.declared.expression.Relation.TheVariants.{Equal};
-ghost use Rattle.vcm_templates.specs.Expressions.{number, truth, both, is_current, are_current, knows_frame, is_known, in_frame, is_kept_here, has_form};
+ghost use Rattle.vcm_templates.specs.Expressions.{number, truth, both, either, is_current, are_current, knows_frame, is_known, in_frame, is_kept_here, has_form};
 
 use crate::carried::{Carried, Item};
 use crate::lengths::Kept;
@@ -33,6 +33,16 @@ pub fn both(alloc: Global, a: &Expr, b: &Expr) -> Result<Expr, NoMemory>
     ensures { IfOk result (λ e. e ≡ both a.now b.now) }
 {
     match join(alloc, BinaryOp::And, a, b)? {
+        Some(value) => Ok(value),
+        None => Ok(truth(false)),
+    }
+}
+
+/// One of two truth values; what gets too large is false.
+pub fn either(alloc: Global, a: &Expr, b: &Expr) -> Result<Expr, NoMemory>
+    ensures { IfOk result (λ e. e ≡ either a.now b.now) }
+{
+    match join(alloc, BinaryOp::Or, a, b)? {
         Some(value) => Ok(value),
         None => Ok(truth(false)),
     }

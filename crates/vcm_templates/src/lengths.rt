@@ -26,6 +26,12 @@ pub enum Length {
     Retract,
     /// Half the width of the tip.
     Tip,
+    /// The component of a feature's direction along the axis of an origin that lies on it.
+    Along,
+    /// The origins of the frame that is made.
+    OriginX,
+    OriginY,
+    OriginZ,
 }
 
 impl Length {
@@ -46,6 +52,10 @@ impl Length {
             Length::Approach => b"APPROACHLENGTH",
             Length::Retract => b"RETRACTLENGTH",
             Length::Tip => b"TIPLENGTH",
+            Length::Along => b"ALONG",
+            Length::OriginX => b"ORIGINX",
+            Length::OriginY => b"ORIGINY",
+            Length::OriginZ => b"ORIGINZ",
         }
     }
 

@@ -15,8 +15,8 @@ pub use besides::{Beside, Formula, carries_bounds};
 pub use carried::{Carried, FEATURES_STEP, IMPLICIT, Item, UNKNOWN_SENSOR};
 pub use exact::{exact_at, is_quotient};
 pub use expressions::{
-    are_current, both, has_form, in_frame, is_current, is_kept_here, is_known, knows_frame, number,
-    same_as, truth,
+    are_current, both, either, has_form, in_frame, is_current, is_kept_here, is_known, knows_frame,
+    number, same_as, truth,
 };
 pub use guarded::Guarded;
 pub use lengths::{Kept, Length};

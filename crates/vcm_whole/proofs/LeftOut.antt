@@ -1,6 +1,6 @@
 -- What a text says is what its statements say.
 use Rattle.std.proofs.Common.{◌≡◌, ◌⊎◌, inl, inr, ℕ, Bool, true, false, ◌&&◌, nat_eq, List, [], ◌∷◌, ◌++◌, Option, Some, None, Result, Ok, Err, refl, sym, ap, ◌∙◌, arith}
-use Rattle.std.specs.Prelude.{if◌then◌else◌, codes}
+use Rattle.std.specs.Prelude.{if◌then◌else◌, codes, ℤ, not, is_some}
 use Rattle.std.specs.List.{list_all, flat_map}
 use Rattle.vcm_lines.specs.declared.fault.FaultCode.{FaultCode}
 use Rattle.vcm_lines.specs.declared.logical.Logical.{Logical}
@@ -20,6 +20,7 @@ use Rattle.vcm_events.specs.declared.event.Event.TheVariants.{PolarMotion, Polar
 use Rattle.vcm_said.specs.Places.{step_at, slant_at}
 use Rattle.vcm_said.specs.Polar.{polar_motion, polar_touch}
 use Rattle.vcm_said.specs.Said.{said, row_said, spelled_in, stated, or_said, motion_otherwise, touch_otherwise, call_said, feature_lost, measure_lost, measured_at, frame_otherwise, mode_said, polar_or, sensor_said, is_plain_sensor}
+use Rattle.vcm_said.specs.Cases.{values_of, case_said, is_shaping}
 use Rattle.vcm_said.specs.All.{on_line, said_unless, said_from, shape_fault}
 use Rattle.vcm_whole.specs.Laws.{said_lists, NothingIsLeftOut, AreOnTheirLines, EachHasItsLine, may_be_silent, SilentOnesMoveNothing}
 
@@ -98,14 +99,20 @@ sensor_some : (b : Bool) (line : ℕ) → some (sensor_said b line) ≡ true
 sensor_some true line = refl
 sensor_some false line = refl
 
-shape_some : (line : ℕ) (r : Result Form FaultCode) → shape_fault line rows.Shape r ≡ None → some (stated (spelled_in r)) ≡ true
+shape_some : (line : ℕ) (r : Result Form FaultCode) → shape_fault line true r ≡ None → some (stated (spelled_in r)) ≡ true
 shape_some line (Ok f) e = refl
 shape_some line (Err c) e = absurd cc
 
+case_some : (line : ℕ) (r : Result Form FaultCode) (o : Option (ℤ × List ℤ)) → shape_fault line (not (is_some o)) r ≡ None → some (case_said (spelled_in r) o) ≡ true
+case_some line (Ok f) o e = refl
+case_some line (Err c) None e = absurd cc
+case_some line (Err c) (Some v) e = refl
+
 -- a statement says something, or its row may say nothing
-says_or_silent : (row : Row) (r : Result Form FaultCode) (line : ℕ) (ws behind : List Lexeme) → shape_fault line row r ≡ None
+says_or_silent : (row : Row) (r : Result Form FaultCode) (line : ℕ) (ws behind : List Lexeme) → shape_fault line (is_shaping row ws) r ≡ None
     → (some (row_said row (spelled_in r) line ws behind) ≡ true) ⊎ (may_be_silent row ≡ true)
 says_or_silent rows.Shape r line ws behind e = inl (shape_some line r e)
+says_or_silent rows.Case r line ws behind e = inl (case_some line r (values_of ws) e)
 says_or_silent rows.Stated r line ws behind e = inr refl
 says_or_silent rows.Value r line ws behind e = inr refl
 says_or_silent rows.Text r line ws behind e = inr refl

@@ -1,3 +1,4 @@
+pub mod Dating
 pub mod Refusing
 pub mod Lettering
 pub mod Ended

@@ -2,7 +2,6 @@
 use Rattle.std.specs.Prelude.{◌≡◌, ℕ, Bool, true, false, nat_eq, List, [], ◌∷◌, ◌++◌, None}
 use Rattle.std.specs.List.{list_all, flat_map}
 use Rattle.vcm_lines.specs.declared.logical.Logical.{Logical}
-use Rattle.vcm_syntax.specs.Statements.{statement_of}
 use Rattle.vcm_forms.specs.declared.statement.Form.TheVariants.{Opening, Measures}
 use Rattle.vcm_forms.specs.declared.statement.Statement.{Statement}
 use Rattle.vcm_macro.specs.declared.placed.Placed.{Placed}
@@ -15,7 +14,7 @@ use Rattle.vcm_heads.specs.declared.rows.Row.{Row}
 use Rattle.vcm_heads.specs.declared.rows.Row.TheVariants as rows
 use Rattle.vcm_heads.specs.Rows.{row_in, words_of, own_behind}
 use Rattle.vcm_said.specs.Said.{said}
-use Rattle.vcm_said.specs.All.{on_line, said_unless, said_all, shape_fault}
+use Rattle.vcm_said.specs.All.{on_line, said_unless, said_all, refused_at}
 use Rattle.vcm_given.specs.declared.choices.Choices.{Choices}
 use Rattle.vcm_whole.specs.declared.whole.Facts.{Facts}
 use Rattle.vcm_whole.specs.Whole.{Expands, stays, IsPut, IsWholeBuilt}
@@ -85,5 +84,5 @@ may_be_silent row = false
 -- a statement that says nothing, and isn't refused, is of such a row
 abbrev pub SilentOnesMoveNothing : Type 0
 SilentOnesMoveNothing =
-    (l : Logical) → shape_fault l.line (row_in (words_of l)) (statement_of (words_of l)) ≡ None → said l.line (words_of l) ≡ []
+    (l : Logical) → refused_at l ≡ None → said l.line (words_of l) ≡ []
     → may_be_silent (row_in (words_of l)) ≡ true

@@ -36,6 +36,8 @@ abbrev pub event_loses : Event → Option Term → Bool
 event_loses events.Untried t = true
 event_loses events.UntriedPoint t = true
 event_loses events.Ends t = true
+event_loses events.Origins t = true
+event_loses events.CaseValue t = false
 event_loses events.Points t = is_unknown t
 event_loses e t = is_zero t
 

@@ -28,6 +28,7 @@ use Rattle.vcm_plain.specs.Units.{single_unit}
 use Rattle.vcm_said.specs.All.{said_all, refused_from}
 use Rattle.vcm_given.specs.declared.choices.Choices.{Choices}
 use Rattle.vcm_given.specs.Chosen.{is_silent, chosen}
+use Rattle.vcm_datums.specs.Dated.{dated}
 use Rattle.vcm_certain.specs.Certain.{is_certain}
 use Rattle.vcm_given.specs.Unused.{unused}
 use Rattle.vcm_doubts.specs.Settled.{settled}
@@ -45,9 +46,9 @@ pub record ReadsPlain (text : List ℕ) (unit : LengthUnit) (lines : List Logica
   pub unit_is : unit ≡ single_unit written
   pub read : ReadsLines (plain unit text) lines
 
--- what the statements of a text say, with what a command line says of them; where something is read in two ways it isn't known
+-- what the statements of a text say, with what a command line says of them, and with its datums; where something is read in two ways it isn't known
 abbrev pub statements_of : Choices → List ℕ → List Logical → List Statement
-statements_of c text ls = settled text ls (chosen c ls (said_all ls))
+statements_of c text ls = settled text ls (dated ls (chosen c ls (said_all ls)))
 
 -- the text reads as these statements, none of those that shape the program is faulty, and what they say expands to these
 pub record Expands (c : Choices) (text : List ℕ) (unit : LengthUnit) (lines : List Logical) (expanded : List Placed) : Type 0 where

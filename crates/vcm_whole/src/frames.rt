@@ -2,11 +2,11 @@
 
 ghost use Rattle.std.specs.Prelude.{◌≡◌, ◌++◌, IfOk, OnOk};
 ghost use Rattle.std.specs.List.{list_any};
-ghost use Rattle.vcm_whole.specs.Frames.{frame_in, makes, leaves, begins_macro, may_make, takes_given, named_by, named_on, named_frames};
+ghost use Rattle.vcm_whole.specs.Frames.{frame_in, is_left, makes, leaves, begins_macro, may_make, takes_given, named_by, named_on, named_frames};
 
 use std::alloc::Global;
-use vcm_events::slanted_name;
-use vcm_forms::{Form, Statement};
+use vcm_events::{is_origin, slanted_name};
+use vcm_forms::{Form, Offset, Statement};
 use vcm_items::Name;
 use vcm_num::{Items, NoMemory, is};
 
@@ -39,29 +39,37 @@ fn frame_in(form: &Form) -> Option<Name>
     }
 }
 
-/// Whether a statement makes a frame of this name by shifts or a turn.
-pub(crate) fn makes(name: &Name, form: &Form) -> bool
+// Whether shifts are those of a frame of something that isn't known, or by datums.
+fn is_left(offsets: &[Offset]) -> bool
+    ensures { result ≡ is_left offsets.now }
+{
+    match offsets.first() {
+        Some(offset) => is_origin(&offset.length),
+        None => true,
+    }
+}
+
+// Whether a statement makes a frame of this name by shifts or a turn.
+fn makes(name: &Name, form: &Form) -> bool
     ensures { result ≡ makes name.now form.now }
 {
     match form {
-        Form::Shift(label, offsets) => match offsets.as_slice() {
-            [] => false,
-            _ => is(label.as_bytes(), name.as_bytes()),
-        },
+        Form::Shift(label, offsets) => {
+            !is_left(offsets.as_slice()) && is(label.as_bytes(), name.as_bytes())
+        }
         Form::Rotation(label, _, _) => is(label.as_bytes(), name.as_bytes()),
         _ => false,
     }
 }
 
-// Whether it makes one of something that isn't known.
+// Whether it makes one of something that isn't known, or by datums.
 fn leaves(name: &Name, form: &Form) -> bool
     ensures { result ≡ leaves name.now form.now }
 {
     match form {
-        Form::Shift(label, offsets) => match offsets.as_slice() {
-            [] => is(label.as_bytes(), name.as_bytes()),
-            _ => false,
-        },
+        Form::Shift(label, offsets) => {
+            is_left(offsets.as_slice()) && is(label.as_bytes(), name.as_bytes())
+        }
         _ => false,
     }
 }
@@ -80,8 +88,8 @@ fn any_makes(all: &[Statement], name: &Name) -> bool
     all.iter().any(|statement| makes(name, &statement.form))
 }
 
-/// Whether one of the statements makes it of something that isn't known.
-pub(crate) fn any_leaves(all: &[Statement], name: &Name) -> bool
+// Whether one of the statements makes it of something that isn't known, or by datums.
+fn any_leaves(all: &[Statement], name: &Name) -> bool
     ensures { result ≡ list_any (λ s. leaves name.now s.form) all.now }
 {
     all.iter().any(|statement| leaves(name, &statement.form))
@@ -106,10 +114,7 @@ fn takes_given(all: &[Statement], form: &Form) -> bool
     ensures { result ≡ takes_given all.now form.now }
 {
     match form {
-        Form::Shift(_, offsets) => match offsets.as_slice() {
-            [] => true,
-            _ => false,
-        },
+        Form::Shift(_, offsets) => is_left(offsets.as_slice()),
         Form::Restore(label) => any_leaves(all, label) || !may_make(all, label),
         _ => false,
     }

@@ -40,7 +40,8 @@ fn event_loses(event: Event, value: &Expr) -> bool
     ensures { result ≡ event_loses event (leaf_in value.now) }
 {
     match event {
-        Event::Untried | Event::UntriedPoint | Event::Ends => true,
+        Event::Untried | Event::UntriedPoint | Event::Ends | Event::Origins => true,
+        Event::CaseValue => false,
         Event::Points => is_unknown(value),
         _ => is_zero(value),
     }

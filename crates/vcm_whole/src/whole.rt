@@ -33,6 +33,7 @@ use crate::frames::{FrameLine, named_frames};
 use crate::losses::{lossy_lines, says_mode, says_unit};
 use std::alloc::Global;
 use vcm_certain::is_certain;
+use vcm_datums::date;
 use vcm_doubts::settle;
 use vcm_forms::{Form, Statement};
 use vcm_given::{Choices, choose, first_unused};
@@ -271,7 +272,8 @@ fn statements_of(
     ensures { IfOk result (λ ss. ss.items ≡ statements_of choices.now text.now lines.now) }
 {
     let chosen = choose(alloc, choices, lines, said)?;
-    settle(alloc, text, lines, chosen)
+    let dated = date(alloc, lines, chosen)?;
+    settle(alloc, text, lines, dated)
 }
 
 // What is told of a text whose statements say this of themselves.

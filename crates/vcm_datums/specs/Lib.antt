@@ -1,0 +1,2 @@
+pub mod Datums
+pub mod Dated
