@@ -44,6 +44,7 @@ FILES = {
     "datums.dmi": "DMISMN/'DATUMS',05.2\nUNITS/MM,ANGDEC\nD(PART)=DATSET/DAT(A),ZDIR,ZORIG,DAT(B),XDIR\nF(C1)=FEAT/CIRCLE,INNER,CART,20,20,20,0,0,1,10\n"
     "GOTO/20,20,50\nMEAS/CIRCLE,F(C1),3\nPTMEAS/CART,25,20,20,-1,0,0\nPTMEAS/CART,20,25,20,0,-1,0\nPTMEAS/CART,15,20,20,1,0,0\nENDMES\nGOHOME\nENDFIL\n",
     # inches, a question, and a frame by datums
+    "waits.dmi": "DMISMN/'WAITS',05.2\nUNITS/MM,ANGDEC\nMODE/PROG,MAN\nWAIT/5\nS(1)=SNSDEF/PROBE,FIXED,CART,0,0,100,0,0,-1,8\nSNSLCT/S(1)\nROTAB/RT(A),ABSL,CW,30\nROTAB/RT(A),ABSL,CW,0\nGOTO/10,10,60\nFLY/2\nENDFIL\n",
     "asked.dmi": "DMISMN/'ASKED',05.2\nUNITS/INCH,ANGDEC\nDECL/INTGR,V\nTEXT/QUERY,(V),5,N,L,'HOW MANY'\nD(A)=DATSET/DAT(P),ZDIR\nGOTO/1,1,2.5\n"
     "IF/(V.EQ.10)\nGOTO/1,2,2.5\nENDIF\nENDFIL\n",
     # a frame that isn't known, and one of the machine, under long names; a way that begins elsewhere, and meets a block
@@ -176,6 +177,11 @@ def runs():
     yield case("run touch.dmi part-a.toml --whole --apprch 2 --retrct 2 --search 5 --approach", status=7)
     yield case("run stations.dmi part-a.toml --whole --show STATION")
     yield case("check touch.dmi --whole --apprch 2 --retrct 2 --search 5")
+    yield case("run waits.dmi part-a.toml --whole --harmless WAIT --table 0", status=7)
+    yield case("check waits.dmi --whole --harmless WAIT --table 0")
+    yield case("why waits.dmi part-a.toml --whole --harmless WAIT --table 0", status=7)
+    yield case("trace waits.dmi part-a.toml --whole --harmless WAIT --table 0", kind="lines", status=7)
+    yield case("points waits.dmi part-a.toml --whole --harmless WAIT --table 0", kind="lines", status=7)
     yield case("check asked.dmi --whole --frame A=10,20,0,Z90 --given V=10 --auto --approach")
     given = "--frame A=10,20,0,Z90 --given V=10 --apprch 2 --retrct 2 --search 5 --auto --approach"
     yield case(f"why asked.dmi part-a.toml --whole {given}")
@@ -201,6 +207,7 @@ def runs():
     yield case("judge overhang.dmi --probe stylus.toml --csv", status=3, kind="judged")
     yield case(f"judge asked.dmi --part part-a.toml --whole {given} --junit ../image", kind="judged")
     yield case("judge touch.dmi --part part-a.toml --report ../image", kind="judged")
+    yield case("judge waits.dmi --part part-a.toml --whole --harmless WAIT --table 0", status=7, kind="judged")
 
 
 def texts():

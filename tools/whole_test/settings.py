@@ -181,6 +181,32 @@ def prompt(machine, it):
     machine.asked(it, [name for name in [it.name, *it.fields] if name.upper() in known])
 
 
+def read(machine, it):
+    """READ: which of the variables that it names come from a file."""
+    known = {name for scope in machine.variables.scopes for name in scope}
+    machine.asked(it, [name for name in it.fields if name.upper() in known])
+
+
+def from_machine(machine, it):
+    """VALUE: a variable has something of the machine."""
+    machine.asked(it, [it.name])
+
+
+def delete(machine, it):
+    """DELETE: a frame or a feature is no more, by the reading or the course."""
+    name, state = machine.label(it.fields[0]), machine.state
+    kind = it.fields[0].upper().partition("(")[0]
+    stores = {"D": [state.frames, state.saved], "DA": [state.frames, state.saved], "F": [state.nominals], "FA": [state.actuals]}[kind]
+    if machine.course.yes("deleted", it.line):
+        for store in stores:
+            store.pop(name, None)
+
+
+def fitted(machine, it):
+    """LOCATE: a frame that the course gives."""
+    saved_under(machine, it, machine.course.frame("located", it.line))
+
+
 def assign(machine, it):
     """ASSIGN of a value to a variable."""
     machine.variables.assign(it.name, machine.variables.value(it.fields[0]))
@@ -236,6 +262,7 @@ def module(machine, it):
 STATEMENTS = {
     "DMISMD": module, "UNITS": units, "MODE": mode, "SNSET": sensor_settings, "SNSDEF": sensor_defined, "SNSLCT": sensor_chosen, "TRANS": shift, "ROTATE": turn,
     "DATDEF": datum, "DATSET": datum_frame, "RECALL": recall, "SAVE": save, "TEXT": text, "PROMPT": prompt, "ASSIGN": assign, "DECL": declare,
+    "READ": read, "VALUE": from_machine, "DELETE": delete, "LOCATE": fitted,
     "DMIS": native, "PRCOMP": switch("compensated"), "SCNMOD": switch("scanning"),
     "WKPLAN": lambda machine, it: setattr(machine.state, "plane", PLANES[it.fields[0].upper()]),
 }

@@ -53,6 +53,8 @@ class Writer:
         name = self.pick.choice(self.wholes + self.indices)
         real = self.pick.choice(self.reals)
         sums = [f"{name}+{self.pick.randint(1, 60)}", f"{real}+{self.pick.randint(1, 60)}"]
+        if "function" in self.kinds and self.chance(0.2):
+            return self.pick.choice(["SQRT(2000)", "60*COS(DTOR(30))", f"{name}*SIN(0.5)+20", f"{real}+SQRT(50)", "ABS(-12.5)", "NINT(12.7)*2", f"{name}*INT(7.9)", "-TAN(0.7)*20"])
         parts = [f"{real}/3", f"{real}*1.5", f"{real}*0.70710678", f"{name}*2.54", f"{real}/7*700", f"({real}-{name})/2.0"] if "quotient" in self.kinds else []
         return self.pick.choice([*sums, *parts, f"{name}*10", real, f"{real}*2", f"-{name}*5", f"{name}/2*10", f"({name}+1)*{real}"])
 
@@ -71,6 +73,9 @@ class Writer:
         sign = self.pick.choice(["GT", "LT", "EQ", "NE", "LE", "GE"])
         if "quotient" in self.kinds and self.chance(0.3):
             return self.pick.choice([f"{real}/3.{sign}.{self.literal(30)}", f"{real}*3.{sign}.{real}*3.0", f"{real}/2.{sign}.{real}*0.5", f"{real}*1.01.{sign}.{self.literal(30)}"])
+        if "function" in self.kinds and self.chance(0.3):
+            bound = self.pick.randint(0, 60)
+            return self.pick.choice([f"ABS({real}).{sign}.{bound}", f"ABS({real}-{name}).{sign}.{bound}.AND.{name}.LT.4", f"ABS({name}-2).{sign}.1", f"ABS(R-X).{sign}.{real}", f"SQRT(16.0).{sign}.{name}", f".NOT.ABS({real}+1).{sign}.{bound}.OR.B"])
         return self.pick.choice([f"{name}.{sign}.{self.pick.randint(0, 5)}", f"{real}.{sign}.{self.literal(30)}", f"{name}.GT.1.AND.{name}.LT.4", "B", f".NOT.B.OR.{name}.EQ.2"])
 
     # ---- motions
@@ -296,6 +301,50 @@ class Writer:
         if self.measured:
             self.put(f"F({self.pick.choice(self.measured)})=CONST/POINT,MIDPT,FA({self.measured[0]}),FA({self.measured[-1]})")
 
+    def delete(self):
+        """DELETE of a frame or a feature by its name."""
+        kinds = [(word, names) for word, names in (("D", self.frames), ("F", self.points), ("FA", self.measured)) if names]
+        word, names = self.pick.choice(kinds)
+        self.put(f"DELETE/{word}({self.pick.choice(names)})")
+
+    def made_below(self):
+        """A loop whose second round comes to a name that its first round made below in writing."""
+        index, name, kind = self.fresh("I"), self.fresh("Z"), self.pick.choice(["D", "F", "V"])
+        self.declared.append(index)
+        above = {
+            "D": [f"RECALL/D({name})", f"D({name})=LOCATE/XYZAXI,FA(QQ)", f"DELETE/D({name})", f"SAVE/D({name})"],
+            "F": [f"OUTPUT/FA({name})", f"R=OBTAIN/FA({name}),3", f"F({name})=CONST/POINT,MIDPT,FA({name}),FA({name})", f"DELETE/FA({name})"],
+            "V": [f"X=ASSIGN/{name}+1", f"{name}=ASSIGN/{name}*2", f"TEXT/QUERY,({name}),10,N,L,'How many?'", f"{name}=VALUE/RTAB,ANGL"],
+        }[kind]
+        self.put(f"DO/{index},1,3", f"  IF/({index}.GT.1)")
+        self.depth += 2
+        self.put(*self.pick.sample(above, self.pick.choice([1, 1, 2])))
+        if self.chance(0.6):
+            self.goto()
+        self.depth -= 2
+        self.put("  ENDIF")
+        self.depth += 1
+        below = {"D": [f"D({name})=TRANS/ZORIG,{self.literal(40)}"], "V": [f"DECL/GLOBAL,REAL,{name}", f"{name}=ASSIGN/{self.literal(40)}"]}
+        if kind == "F":
+            self.put(f"F({name})=FEAT/POINT,CART,{self.place()},{self.pick.choice(AXIS_DIRECTIONS)}")
+            self.touches(name)
+        else:
+            self.put(*below[kind])
+        uses = {"D": f"RECALL/D({name})", "F": f"R=OBTAIN/FA({name}),4", "V": f"GOTO/{name},{self.literal()},{self.literal()}"}
+        self.put(uses[kind])
+        self.goto()
+        self.depth -= 1
+        self.put("ENDDO")
+
+    def measure_in_branches(self):
+        """A measurement that begins in one of two branches and ends behind both."""
+        first, second = self.feature(), self.feature()
+        self.put(f"IF/({self.test()})", f"  MEAS/POINT,F({first}),1", "ELSE", f"  MEAS/POINT,F({second}),1", "ENDIF")
+        self.put(f"PTMEAS/CART,{self.place()},{self.pick.choice(AXIS_DIRECTIONS)}", "ENDMES")
+        self.measured += [name for name in (first, second) if name not in self.measured]
+        if self.chance(0.5):
+            self.put(f"R=OBTAIN/FA({self.pick.choice([first, second])}),3")
+
     # ---- variables, people, other programs
 
     def assign(self):
@@ -313,10 +362,22 @@ class Writer:
         name = self.pick.choice(self.reals)
         self.put(f"{name}=ASSIGN/" + self.pick.choice([f"{name}/3", f"{name}/7*700", f"{name}*1.01", "1.0/3.0", f"{name}/1000", f"{name}*1000", "N/4*2.5", "N*0.0254", f"{name}*0.5", f"{name}/2.0", f"{name}*1.00001", f"-{name}/3+1", f"({name}+1)/4"]))
 
+    def function(self):
+        """A value of a function."""
+        name = self.pick.choice(self.reals)
+        self.put(f"{name}=ASSIGN/" + self.pick.choice(["SQRT(200.0)", "10*SIN(DTOR(30))", f"{name}*COS(0.5)", f"{name}+RTOD(0.25)", f"ABS({name})", "SQRT(SQRT(81.0)+7)", f"{name}+NINT(4.5)"]))
+
     def question(self):
         """A question to the operator."""
         name = self.pick.choice([*self.wholes, *self.reals])
         self.put(self.pick.choice([f"TEXT/QUERY,({name}),10,N,L,'How many?'", f"OK=PROMPT/'Setup',EDIT,{name},3"]))
+        if self.chance(0.5):
+            self.put(f"GOTO/{name},{self.literal()},{self.literal()}")
+
+    def read(self):
+        """A variable from a file, or from the machine."""
+        name = self.pick.choice([*self.wholes, *self.reals])
+        self.put(self.pick.choice([f"READ/DID(FILE1),{name}", f"{name}=VALUE/RTAB,ANGL", f"{name}=VALUE/SNSET,APPRCH"]))
         if self.chance(0.5):
             self.put(f"GOTO/{name},{self.literal()},{self.literal()}")
 
@@ -500,7 +561,8 @@ CONSTRUCTS = {
     "scanning": (1, Writer.scanning), "native": (1, Writer.native), "units": (3, Writer.units), "settings": (4, Writer.settings),
     "clearance": (2, Writer.clearance), "sensor": (1, Writer.sensor), "compensation": (1, Writer.compensation), "settled": (2, Writer.settled),
     "feature": (2, Writer.feature), "point": (8, Writer.measure_point), "plane": (3, Writer.measure_plane), "obtain": (4, Writer.obtain),
-    "output": (1, Writer.output), "construct": (1, Writer.construct), "assign": (5, Writer.assign), "quotient": (2, Writer.quotient),
+    "output": (1, Writer.output), "construct": (1, Writer.construct), "delete": (1, Writer.delete), "below": (2, Writer.made_below),
+    "branches": (1, Writer.measure_in_branches), "read": (1, Writer.read), "assign": (5, Writer.assign), "quotient": (2, Writer.quotient), "function": (2, Writer.function),
     "question": (1, Writer.question), "halt": (1, Writer.halt), "others": (1, Writer.others), "noise": (2, Writer.noise), "choice": (5, Writer.choice),
     "loop": (5, Writer.loop), "selection": (2, Writer.selection), "back": (2, Writer.jump_back), "on": (2, Writer.jump_on), "call": (4, Writer.call),
     "case": (0, None), "wanted": (0, None), "module": (0, None),
@@ -508,7 +570,8 @@ CONSTRUCTS = {
 # In which share of the texts a kind may come at all, where it isn't that of most.
 MOSTLY = 0.55
 RARE = {
-    "module": 0.05, "case": 0.2, "wanted": 0.2, "native": 0.3, "others": 0.3, "halt": 0.3, "table": 0.4, "stored": 0.3, "question": 0.4, "compensation": 0.4,
+    "module": 0.05, "case": 0.2, "wanted": 0.2, "native": 0.3, "others": 0.3, "halt": 0.3, "table": 0.4, "stored": 0.3, "question": 0.4, "compensation": 0.4, "delete": 0.4,
+    "below": 0.4, "branches": 0.3, "read": 0.3,
 }
 ALWAYS = {"goto", "shift", "point", "assign", "settled", "recall"}
 # Kinds that hold others, and so aren't written where blocks are deep already.

@@ -120,6 +120,11 @@ abbrev pub is_sure_assignment : List Target → Option Event → Source → Bool
 is_sure_assignment given None value = is_sure_value given value
 is_sure_assignment given (Some e) value = is_quiet_event e || (is_kind_event e && is_number (leaf_in value))
 
+-- whether a statement about a feature or a frame by its name loses nothing: OBTAIN, or the definition of a datum
+abbrev pub loses_nothing : Option Event → Bool
+loses_nothing None = true
+loses_nothing (Some e) = is_quiet_event e
+
 -- whether the name of a feature is one of the text
 abbrev pub is_own : Option Spot → Bool
 is_own None = true
@@ -156,7 +161,7 @@ is_sure frames given (form.Feature l p d) = is_own (spot_named l) && is_sure_pla
 is_sure frames given (form.Measure l) = is_given given (feature_target l)
 is_sure frames given (form.Touch p d) = is_sure_point frames given p d
 is_sure frames given (form.Shift l os) = is_sure_shift given l os
-is_sure frames given (form.Query t side l word) = not frames
+is_sure frames given (form.Query t side l word) = not frames && loses_nothing (event_named t.name)
 is_sure frames given (form.Report side l) = not frames
 is_sure frames given f = true
 

@@ -5,7 +5,7 @@ ghost use Rattle.std.specs.List.{list_any, list_all};
 ghost use Rattle.vcm_expr.specs.Source.{leaf_in};
 ghost use Rattle.vcm_events.specs.Events.{event_named};
 ghost use Rattle.vcm_events.specs.Spots.{spot_named};
-ghost use Rattle.vcm_certain.specs.Certain.{is_same, is_given, setting_target, feature_target, is_sure_piece, is_sure_value, is_sure_place, is_sure_increment, are_sure_shifts, are_set, is_number, is_kind_event, is_quiet_event, is_sure_assignment, is_own, is_width, has_shifts, is_sure_shift, is_sure_point, is_sure};
+ghost use Rattle.vcm_certain.specs.Certain.{is_same, is_given, setting_target, feature_target, is_sure_piece, is_sure_value, is_sure_place, is_sure_increment, are_sure_shifts, are_set, is_number, is_kind_event, is_quiet_event, loses_nothing, is_sure_assignment, is_own, is_width, has_shifts, is_sure_shift, is_sure_point, is_sure};
 
 use crate::certain::FEATURE;
 use vcm_events::{Event, Spot, slanted_name};
@@ -148,6 +148,16 @@ fn is_quiet_event(event: Event) -> bool
     matches!(event, Event::Plane | Event::Bind | Event::CaseBegins)
 }
 
+// Whether a statement about a feature or a frame by its name loses nothing.
+fn loses_nothing(name: &[u8]) -> bool
+    ensures { result ≡ loses_nothing (event_named name.now) }
+{
+    match Event::named(name) {
+        Some(event) => is_quiet_event(event),
+        None => true,
+    }
+}
+
 // Whether an assignment loses nothing.
 fn is_sure_assignment(given: &[Target], name: &[u8], value: &Expr) -> bool
     ensures { result ≡ is_sure_assignment given.now (event_named name.now) value.now }
@@ -232,7 +242,8 @@ pub(crate) fn is_sure(frames: bool, given: &[Target], form: &Form) -> bool
         Form::Measure(label) => is_declared(given, label),
         Form::Touch(place, axis) => is_sure_point(frames, given, place, *axis),
         Form::Shift(label, offsets) => is_sure_shift(given, label, offsets.as_slice()),
-        Form::Query(_, _, _, _) | Form::Report(_, _) => !frames,
+        Form::Query(target, _, _, _) => !frames && loses_nothing(target.name.as_bytes()),
+        Form::Report(_, _) => !frames,
         _ => true,
     }
 }

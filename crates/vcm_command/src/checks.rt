@@ -2,7 +2,7 @@
 
 use crate::choices::choices_of;
 use crate::telling::tell_bytes;
-use crate::whole::{Built, put_whole, status_of_unused, tell_reading};
+use crate::whole::{Built, put_whole, status_of_unused, tell_harmless, tell_reading};
 use std::alloc::{AllocError, Global};
 use std::fmt::Write as _;
 use std::rt::Files;
@@ -172,7 +172,12 @@ fn whole_text(alloc: Global, checked: Checked<'_>, facts: &Facts) -> Result<Stri
 }
 
 // Prints what a producer's text is put as, and gives the exit status.
-fn tell_whole<R: Print + Eprint + AllocGlobal>(rt: &R, checked: Checked<'_>, built: &Built) -> u8 {
+fn tell_whole<R: Print + Eprint + AllocGlobal>(
+    rt: &R,
+    checked: Checked<'_>,
+    request: &Request<'_, '_>,
+    built: &Built,
+) -> u8 {
     let facts = &built.whole.facts;
     let Ok(text) = whole_text(rt.alloc(), checked, facts) else {
         return tell_fault(rt, checked, Message::NoMemory);
@@ -185,6 +190,7 @@ fn tell_whole<R: Print + Eprint + AllocGlobal>(rt: &R, checked: Checked<'_>, bui
     tell_notices(rt, checked, built.whole.notices.as_slice());
     let front = if checked.is_named { checked.name } else { "" };
     tell_reading(rt, checked.voice, front, facts, built.names.as_slice());
+    tell_harmless(rt, checked.voice, front, request);
     0
 }
 
@@ -198,7 +204,7 @@ fn judge_whole<R: Print + Eprint + AllocGlobal>(
     match put_whole(rt.alloc(), request, 0, checked.name, text) {
         Ok(built) => match status_of_unused(rt, &built.whole.facts, built.names.as_slice()) {
             Some(status) => status,
-            None => tell_whole(rt, checked, &built),
+            None => tell_whole(rt, checked, request, &built),
         },
         Err(message) => tell_fault(rt, checked, message),
     }

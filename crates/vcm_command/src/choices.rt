@@ -6,6 +6,7 @@ use vcm_given::{Answer, Choices, GivenFrame, Value};
 use vcm_items::{Name, VariableName, is_name, is_variable_name};
 use vcm_messages::Message;
 use vcm_num::{Items, NoMemory};
+use vcm_plain::millionths_of;
 use vcm_sentences::read_decimal;
 use vcm_short_names::ShortName;
 use vcm_spec::{FrameAxis, Quarters};
@@ -24,8 +25,16 @@ const LENGTH: Message<'static> = Message::Option {
     words: "--apprch, --retrct and --search want millimetres, a number from 0 to 1000 with three decimals at most",
 };
 
+const HARMLESS: Message<'static> = Message::Option {
+    words: "--harmless wants a word that statements of the text go by, or the name of a program that it calls, each once",
+};
+
+const TABLE: Message<'static> = Message::Option {
+    words: "--table wants degrees, a number from 0 to 360 with six decimals at most",
+};
+
 /// The options that are about a producer's text as it stands.
-pub(crate) const ABOUT_WHOLE: [Choice; 7] = [
+pub(crate) const ABOUT_WHOLE: [Choice; 9] = [
     Choice::Frame,
     Choice::Given,
     Choice::Approach,
@@ -33,6 +42,8 @@ pub(crate) const ABOUT_WHOLE: [Choice; 7] = [
     Choice::Search,
     Choice::Auto,
     Choice::Approached,
+    Choice::Harmless,
+    Choice::Table,
 ];
 
 // The greatest length of a setting, in micrometres.
@@ -243,6 +254,62 @@ fn answers_of(
     Ok(Some(answers))
 }
 
+// The word that a text is, written as the program has it: in upper case, and short where it is long.
+fn word_of(alloc: Global, word: &str, names: &[ShortName]) -> Result<Option<Name>, NoMemory> {
+    let word = word.to_ascii_uppercase(alloc)?;
+    label_of(alloc, word.as_bytes(), names)
+}
+
+// Whether a word is given.
+fn has_word(words: &[Name], word: &Name) -> bool {
+    for other in words {
+        if other == word {
+            return true;
+        }
+    }
+    false
+}
+
+// The words that are harmless; none where one of them is no word.
+fn harmless_of(
+    alloc: Global,
+    words: &[&str],
+    names: &[ShortName],
+) -> Result<Option<Items<Name>>, NoMemory> {
+    let mut harmless = Items::new(alloc);
+    for word in words {
+        let Some(word) = word_of(alloc, word, names)? else {
+            return Ok(None);
+        };
+        if has_word(harmless.as_slice(), &word) {
+            return Ok(None);
+        }
+        harmless.push(word)?;
+    }
+    Ok(Some(harmless))
+}
+
+// A number of degrees up to a whole turn, in millionths.
+fn angle_of(text: &[u8]) -> Option<u64> {
+    let angle = millionths_of(text)?;
+    if angle > 360_000_000 || text.starts_with(b"-") {
+        None
+    } else {
+        Some(angle)
+    }
+}
+
+// Where the rotary table stands at the start, if that is given.
+fn table_of(request: &Request<'_, '_>) -> Result<Option<u64>, Message<'static>> {
+    match request.value(Choice::Table) {
+        None => Ok(None),
+        Some(text) => match angle_of(text.as_bytes()) {
+            Some(angle) => Ok(Some(angle)),
+            None => Err(TABLE),
+        },
+    }
+}
+
 // What was read of words, or what is told where it isn't that.
 fn told<T>(
     read: Result<Option<T>, NoMemory>,
@@ -267,6 +334,7 @@ pub(crate) fn choices_of(
     let frames = told(frames, FRAME)?;
     let answers = answers_of(alloc, request.values(Choice::Given), names);
     let answers = told(answers, GIVEN)?;
+    let harmless = harmless_of(alloc, request.values(Choice::Harmless), names);
     Ok(Choices {
         approach: setting_of(request, Choice::Approach)?,
         retract: setting_of(request, Choice::Retract)?,
@@ -276,6 +344,8 @@ pub(crate) fn choices_of(
         is_auto: request.has(Choice::Auto),
         is_approached: request.has(Choice::Approached),
         tip: i32::try_from(tip).unwrap_or(0),
+        harmless: told(harmless, HARMLESS)?,
+        table: table_of(request)?,
     })
 }
 
@@ -283,7 +353,9 @@ pub(crate) fn choices_of(
 pub(crate) fn says_of_whole(request: &Request<'_, '_>) -> bool {
     for choice in &ABOUT_WHOLE {
         let is_there = match choice {
-            Choice::Frame | Choice::Given => !request.values(*choice).is_empty(),
+            Choice::Frame | Choice::Given | Choice::Harmless => {
+                !request.values(*choice).is_empty()
+            }
             Choice::Auto | Choice::Approached => request.has(*choice),
             _ => request.value(*choice).is_some(),
         };

@@ -163,7 +163,7 @@ fn asked_words(alloc: Global, request: &Request<'_, '_>) -> Result<String, Alloc
     for choice in request.usage().choices {
         let name = choice.spelled().name;
         match choice {
-            Choice::Frame | Choice::Given => {
+            Choice::Frame | Choice::Given | Choice::Harmless => {
                 for value in request.values(*choice) {
                     put_asked(&mut text, name, Some(*value))?;
                 }

@@ -63,7 +63,7 @@ pub fn words_to_explain(words: &[String]) -> Option<&[String]> {
 }
 
 const WANTS_WHOLE: Message<'static> = Message::Option {
-    words: "--frame, --given, --apprch, --retrct, --search, --auto and --approach want --whole beside them",
+    words: "--frame, --given, --apprch, --retrct, --search, --auto, --approach, --harmless and --table want --whole beside them",
 };
 
 // How much is told of a job where `--talk` stands: as much as at a terminal.

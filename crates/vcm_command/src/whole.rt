@@ -7,13 +7,15 @@ use vcm_devices::{
     NamedSetting, Request, View, Voice, bytes_of, fails, fails_in_view, fails_twice,
     named_setting_of, output, print_bytes, status_after, write_given, written,
 };
+use vcm_given::{Choices, OtherTip, Width};
+use vcm_items::Name;
 use vcm_job::{Done, Given, InputRefusal, RunFault, is_image, show_given};
 use vcm_loader::load;
 use vcm_messages::{Message, message_of};
 use vcm_motion::AnyPart;
-use vcm_num::{Items, NoMemory};
+use vcm_num::{Items, MOST_STATEMENTS, NoMemory};
 use vcm_part::PartData;
-use vcm_plain::Unit;
+use vcm_plain::{Lengths, Unit};
 use vcm_remarks::NumberedRemark;
 use vcm_short_names::{ShortName, Shortened, lengthen_names, long_name, long_out, shorten_names};
 use vcm_untried::{
@@ -22,7 +24,7 @@ use vcm_untried::{
 use vcm_usage::{Choice, Verb};
 use vcm_values::variable_named;
 use vcm_views::{Points, Values, Why};
-use vcm_whole::{Facts, FrameLine, Whole, build_whole};
+use vcm_whole::{Facts, FrameLine, Whole, build_whole, count_put};
 
 const IMAGE: Message<'static> = Message::Option {
     words: "--whole takes the text of a program, and no image",
@@ -57,9 +59,27 @@ pub(crate) fn put_whole<'a>(
     match build_whole(alloc, &choices, &text) {
         Ok(whole) => Ok(Built { whole, text, names }),
         Err(refusal) => {
-            let fault = RunFault::Refused(InputRefusal::Text(refusal));
-            Err(message_of(fault, input))
+            let message = message_of(RunFault::Refused(InputRefusal::Text(refusal)), input);
+            Err(counted_out(alloc, &choices, &text, message))
         }
+    }
+}
+
+// A refusal; where the text is put as too many statements, with their number.
+fn counted_out<'a>(
+    alloc: Global,
+    choices: &Choices,
+    text: &[u8],
+    message: Message<'a>,
+) -> Message<'a> {
+    match message {
+        Message::Source { words, line } if words.starts_with("E20") => {
+            match count_put(alloc, choices, text) {
+                Some(count) if count > MOST_STATEMENTS => Message::Put { words, line, count },
+                _ => message,
+            }
+        }
+        message => message,
     }
 }
 
@@ -168,6 +188,50 @@ fn tell_taken<R: Eprint>(rt: &R, front: &str, facts: &Facts) {
         tell_front(rt, front);
         let _ = eprintln!(rt; "notice: no MODE: the text is taken as programmed");
     }
+    if !facts.says_sensor {
+        tell_front(rt, front);
+        let _ = eprintln!(rt; "notice: no SNSLCT: the tip of the part is taken");
+    }
+}
+
+// Tells which tips a text puts on that aren't that of the part.
+fn tell_tips<R: Eprint>(rt: &R, front: &str, tips: &[OtherTip]) {
+    for tip in tips {
+        tell_front(rt, front);
+        let line = tip.line;
+        let _ = match tip.width {
+            Width::Wide(width) => {
+                let (whole, part) = (width / 1_000_000, width / 1_000 % 1_000);
+                eprintln!(rt;
+                    "notice: the sensor of line {line} has a tip of {whole}.{part:03}, and not that of the part"
+                )
+            }
+            Width::Unread => {
+                eprintln!(rt;
+                    "notice: the width of the tip of line {line} isn't followed: that of the part is taken"
+                )
+            }
+            Width::Unsaid => {
+                eprintln!(rt;
+                    "notice: no SNSDEF says the width of the tip of line {line}: that of the part is taken"
+                )
+            }
+        };
+    }
+}
+
+// Tells names, one behind the other.
+fn tell_words<R: Eprint>(rt: &R, front: &str, head: &str, words: &[Name]) {
+    if words.is_empty() {
+        return;
+    }
+    tell_front(rt, front);
+    let _ = eprint!(rt; "notice: {head}");
+    for word in words {
+        let word = std::str::from_utf8(word.as_bytes()).unwrap_or("?");
+        let _ = eprint!(rt; " {word}");
+    }
+    let _ = eprintln!(rt; "");
 }
 
 /// Tells how the names of a text are read and, where it isn't run as it is written, its lengths and what it doesn't say; each line with the program's name before
@@ -185,7 +249,9 @@ pub(crate) fn tell_reading<R: Eprint>(
     tell_names(rt, front, names);
     if !facts.is_as_written {
         tell_taken(rt, front, facts);
+        tell_tips(rt, front, facts.tips.as_slice());
         tell_lengths(rt, front, facts);
+        tell_words(rt, front, "not looked at:", facts.unlooked.as_slice());
     }
 }
 
@@ -195,17 +261,42 @@ fn tell_lengths<R: Eprint>(rt: &R, front: &str, facts: &Facts) {
         return;
     }
     tell_front(rt, front);
-    let _ = match facts.unit {
-        Unit::Millimetre => {
+    let _ = match facts.lengths {
+        Lengths { several: true, .. } => {
+            eprintln!(rt; "notice: lengths in several units are taken as whole micrometres")
+        }
+        Lengths {
+            unit: Unit::Millimetre,
+            ..
+        } => {
             eprintln!(rt;
-                "notice: numbers with more than three decimals: lengths are taken as whole micrometres"
+                "notice: numbers with more than three decimals, or functions: lengths are taken as whole micrometres"
             )
         }
-        unit => {
+        Lengths { unit, .. } => {
             let name = unit_name(unit);
             eprintln!(rt; "notice: lengths in {name} are taken as whole micrometres")
         }
     };
+}
+
+/// Tells which words are taken as harmless, since the command line says so.
+pub(crate) fn tell_harmless<R: Eprint>(
+    rt: &R,
+    voice: Voice,
+    front: &str,
+    request: &Request<'_, '_>,
+) {
+    let words = request.values(Choice::Harmless);
+    if voice.is_quiet || words.is_empty() {
+        return;
+    }
+    tell_front(rt, front);
+    let _ = eprint!(rt; "notice: taken as harmless:");
+    for word in words {
+        let _ = eprint!(rt; " {word}");
+    }
+    let _ = eprintln!(rt; "");
 }
 
 // What is reported of a run, and whether all of it was tried.
@@ -476,6 +567,7 @@ fn show_running<R: Print + Eprint + AllocGlobal>(
         Ok(done) => {
             let status = status_after(rt, voice, Ok(done));
             tell_reading(rt, voice, "", &facts, names.as_slice());
+            tell_harmless(rt, voice, "", request);
             tell_untried(rt, &report, status)
         }
         Err(message) => fails_in_view(rt, voice, message, request.input()),

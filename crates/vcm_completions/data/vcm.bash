@@ -16,21 +16,21 @@ _vcm_files() {
 _vcm_takes() {
   options= valued= files=() is_many=
   case $1 in
-    check) options="--talk --quiet --all --whole --frame --given --apprch --retrct --search --auto --approach" valued="--frame:. --given:. --apprch:. --retrct:. --search:." files=("dmi dmis") is_many=1 ;;
+    check) options="--talk --quiet --all --whole --frame --given --apprch --retrct --search --auto --approach --harmless --table" valued="--frame:. --given:. --apprch:. --retrct:. --search:. --harmless:. --table:." files=("dmi dmis") is_many=1 ;;
     survey) options="--tip --part --frame --exact --lines" valued="--tip:. --part:toml --frame:." files=("dmi dmis") ;;
     adapt) options="--tip --part --frame --exact --touch" valued="--tip:. --part:toml --frame:." files=("dmi dmis") ;;
     build) options="--talk --quiet" valued="" files=("dmi dmis" "") ;;
-    run) options="--talk --quiet --steps --place --strict --show --whole --frame --given --apprch --retrct --search --auto --approach" valued="--steps:. --place:. --show:. --frame:. --given:. --apprch:. --retrct:. --search:." files=("dmi dmis vcmi" "toml") ;;
-    why) options="--quiet --steps --place --strict --whole --frame --given --apprch --retrct --search --auto --approach" valued="--steps:. --place:. --frame:. --given:. --apprch:. --retrct:. --search:." files=("dmi dmis vcmi" "toml") ;;
+    run) options="--talk --quiet --steps --place --strict --show --whole --frame --given --apprch --retrct --search --auto --approach --harmless --table" valued="--steps:. --place:. --show:. --frame:. --given:. --apprch:. --retrct:. --search:. --harmless:. --table:." files=("dmi dmis vcmi" "toml") ;;
+    why) options="--quiet --steps --place --strict --whole --frame --given --apprch --retrct --search --auto --approach --harmless --table" valued="--steps:. --place:. --frame:. --given:. --apprch:. --retrct:. --search:. --harmless:. --table:." files=("dmi dmis vcmi" "toml") ;;
     contacts) options="--quiet --steps --place --strict" valued="--steps:. --place:." files=("dmi dmis vcmi" "toml") ;;
-    trace) options="--quiet --steps --place --strict --whole --frame --given --apprch --retrct --search --auto --approach" valued="--steps:. --place:. --frame:. --given:. --apprch:. --retrct:. --search:." files=("dmi dmis vcmi" "toml") ;;
+    trace) options="--quiet --steps --place --strict --whole --frame --given --apprch --retrct --search --auto --approach --harmless --table" valued="--steps:. --place:. --frame:. --given:. --apprch:. --retrct:. --search:. --harmless:. --table:." files=("dmi dmis vcmi" "toml") ;;
     margin) options="--quiet --steps --place --strict" valued="--steps:. --place:." files=("dmi dmis vcmi" "toml") ;;
-    points) options="--quiet --steps --place --strict --machine --whole --frame --given --apprch --retrct --search --auto --approach" valued="--steps:. --place:. --frame:. --given:. --apprch:. --retrct:. --search:." files=("dmi dmis vcmi" "toml") ;;
+    points) options="--quiet --steps --place --strict --machine --whole --frame --given --apprch --retrct --search --auto --approach --harmless --table" valued="--steps:. --place:. --frame:. --given:. --apprch:. --retrct:. --search:. --harmless:. --table:." files=("dmi dmis vcmi" "toml") ;;
     clearance) options="--quiet --steps --place --strict" valued="--steps:. --place:." files=("dmi dmis vcmi" "toml" "toml") ;;
     picture) options="--quiet --steps --place --strict --close --sheet --lines" valued="--steps:. --place:. --lines:." files=("dmi dmis vcmi" "toml") ;;
     view) options="--quiet --steps --place --strict --probe" valued="--steps:. --place:. --probe:toml" files=("dmi dmis vcmi" "toml") ;;
     place) options="--quiet --steps --strict --by --from-line" valued="--steps:. --by:. --from-line:." files=("dmi dmis vcmi" "toml") ;;
-    judge) options="--steps --part --probe --place --strict --whole --frame --given --apprch --retrct --search --auto --approach --csv --junit --report" valued="--steps:. --part:toml --probe:toml --place:. --frame:. --given:. --apprch:. --retrct:. --search:. --junit:. --report:." files=("dmi dmis") is_many=1 ;;
+    judge) options="--steps --part --probe --place --strict --whole --frame --given --apprch --retrct --search --auto --approach --harmless --table --csv --junit --report" valued="--steps:. --part:toml --probe:toml --place:. --frame:. --given:. --apprch:. --retrct:. --search:. --harmless:. --table:. --junit:. --report:." files=("dmi dmis") is_many=1 ;;
     part) options="--quiet --place --strict" valued="--place:." files=("toml") ;;
     blocks) options="--talk --quiet --unit --turn --at --within --most --near --into --name" valued="--unit:. --turn:. --at:. --within:. --most:. --near:csv --into:toml --name:." files=("stl") ;;
     debug) options="--talk --quiet --place --strict" valued="--place:." files=("dmi dmis vcmi" "toml") ;;

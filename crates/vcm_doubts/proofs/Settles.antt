@@ -6,8 +6,8 @@ use Rattle.vcm_forms.specs.declared.statement.Form.TheVariants as form
 use Rattle.vcm_events.specs.declared.event.Event.TheVariants as events
 use Rattle.vcm_events.specs.Events.{lost, gained}
 use Rattle.vcm_events.specs.Unknown.{unknown, unknown_rounds}
-use Rattle.vcm_doubts.specs.Doubts.{Doubts, is_among}
-use Rattle.vcm_doubts.specs.Settled.{Known, is_unfollowed, is_doubtful_call, unless, rounds_unless, either, left_out, settled_point, settled_form}
+use Rattle.vcm_doubts.specs.Doubts.{Doubts, is_among, is_in_reach}
+use Rattle.vcm_doubts.specs.Settled.{Macros, is_unfollowed, is_doubtful_call, unless, rounds_unless, either, settled_point, settled_form}
 use Rattle.vcm_doubts.specs.inner.Instead.{are_names, is_in_doubt, becomes}
 
 -- what holds of both truth values holds of each
@@ -21,7 +21,7 @@ without_direction [] p = refl
 without_direction (name ∷ names) p = refl
 
 -- a statement is put as something else where it is in doubt, and stands elsewhere
-pub settles : (d : Doubts) (ms : List Known) (f : Form) → settled_form d ms f ≡ becomes (is_in_doubt d ms f) f
+pub settles : (d : Doubts) (ms : Macros) (f : Form) → settled_form d ms f ≡ becomes (is_in_doubt d ms f) f
 settles d ms (form.Assignment t value) =
     both_ways (λ b. form.Assignment t (unless b value) ∷ [] ≡ becomes b (form.Assignment t value)) refl refl (is_unfollowed d t.name)
 settles d ms (form.Query t side l word) =
@@ -34,12 +34,12 @@ settles d ms (form.Repeat r) =
 settles d ms (form.Restore l) =
     both_ways (λ b. either b (form.Restore l) (lost events.Frame) ∷ [] ≡ becomes b (form.Restore l)) refl refl (is_among d.spelled l)
 settles d ms (form.Report side l) =
-    both_ways (λ b. left_out b (form.Report side l) ≡ becomes b (form.Report side l)) refl refl (is_among d.spelled l)
+    both_ways (λ b. either b (form.Report side l) (gained events.Unreported) ∷ [] ≡ becomes b (form.Report side l)) refl refl (is_among d.spelled l)
 settles d ms (form.Touch p None) = without_direction d.spelled p
 settles d ms (form.Touch p (Some given)) = refl
 settles d ms (form.Leap name) =
     both_ways (λ b. either b (form.Leap name) (gained events.Ends) ∷ [] ≡ becomes b (form.Leap name)) refl refl
-    (not (is_among d.labels name) || is_among d.spelled name)
+    (not (is_in_reach d.labels ms.blocks name) || is_among d.spelled name)
 settles d ms (form.Call name args) =
-    both_ways (λ b. either b (form.Call name args) (lost events.All) ∷ [] ≡ becomes b (form.Call name args)) refl refl (is_doubtful_call d ms name args)
+    both_ways (λ b. either b (form.Call name args) (lost events.All) ∷ [] ≡ becomes b (form.Call name args)) refl refl (is_doubtful_call d ms.above name args)
 settles d ms _ = refl

@@ -1,12 +1,12 @@
 -- What of a text is read in two ways.
-use Rattle.std.specs.Prelude.{ℕ, ◌&&◌, ◌||◌, not, nat_eq, codes, Bool, true, false, if◌then◌else◌, List, [], ◌∷◌, ◌++◌, map, Option, Some, None}
+use Rattle.std.specs.Prelude.{ℕ, ◌-◌, ◌&&◌, ◌||◌, not, nat_eq, codes, Bool, true, false, if◌then◌else◌, List, [], ◌∷◌, ◌++◌, map, length, take, Option, Some, None}
 use Rattle.std.specs.List.{list_any, filter, flat_map, starts_with}
 use Rattle.std.specs.Str.{bytes_eq}
 use Rattle.vcm_lines.specs.declared.logical.Logical.{Logical}
 use Rattle.vcm_lines.specs.Lexemes.{Lexeme}
 use Rattle.vcm_forms.specs.declared.statement.Parameter.{Parameter}
 use Rattle.vcm_forms.specs.declared.statement.Form.{Form}
-use Rattle.vcm_forms.specs.declared.statement.Form.TheVariants.{Declaration, Assignment, Query, Repeat, Feature, Measure, Report, Shift, Rotation, Restore, Mark, Leap, Call, Macro}
+use Rattle.vcm_forms.specs.declared.statement.Form.TheVariants.{Declaration, Assignment, Query, Test, Otherwise, TestEnd, Repeat, RepeatEnd, Choose, Case, CaseEnd, Default, ChooseEnd, Feature, Measure, Report, Shift, Rotation, Restore, Mark, Leap, Call, Macro, MacroEnd}
 use Rattle.vcm_forms.specs.declared.statement.Statement.{Statement}
 use Rattle.vcm_macro.specs.Order.{is_open_behind}
 use Rattle.vcm_heads.specs.declared.rows.Row.{Row}
@@ -14,6 +14,11 @@ use Rattle.vcm_heads.specs.declared.rows.Row.TheVariants.{Other}
 use Rattle.vcm_heads.specs.Heads.{major_of, behind_of, first_field}
 use Rattle.vcm_heads.specs.Rows.{row_in, words_of, own_behind}
 use Rattle.vcm_doubts.specs.Spellings.{spelled_twice}
+
+-- a jump label: its name, and the blocks that it stands in, the outermost first
+pub record Marked : Type 0 where
+  pub name : List ℕ
+  pub blocks : List ℕ
 
 -- what a text leaves in doubt: the names that it spells in two ways, whether a parameter of a macro is one of these, the variables that its macros share with
 -- other programs, the variables that statements within macros set, whether a parameter is one of these, and whether a word of it may split a block; and the jump
@@ -25,7 +30,7 @@ pub record Doubts : Type 0 where
   pub set : List (List ℕ)
   pub parameters : Bool
   pub splits : Bool
-  pub labels : List (List ℕ)
+  pub labels : List Marked
 
 -- whether a name is one of these
 abbrev pub is_among : List (List ℕ) → List ℕ → Bool
@@ -115,14 +120,47 @@ splits_from own (l ∷ ls) =
 
 -- ---- jump labels
 
--- the jump label that a statement is
-abbrev pub labels_by : Form → List (List ℕ)
-labels_by (Mark name) = name ∷ []
-labels_by f = []
+-- the blocks without the innermost
+abbrev pub without_last : List ℕ → List ℕ
+without_last blocks = take (length blocks - 1) blocks
 
--- the jump labels of statements
-abbrev pub labels_in : List Statement → List (List ℕ)
-labels_in ss = flat_map (λ s. labels_by s.form) ss
+-- the blocks that are open behind a statement on a line, each by the line at which it begins; a macro stands in no other block
+abbrev pub open_behind : List ℕ → ℕ → Form → List ℕ
+open_behind blocks line (Test c) = blocks ++ line ∷ []
+open_behind blocks line (Choose c) = blocks ++ line ∷ []
+open_behind blocks line (Repeat r) = blocks ++ line ∷ []
+open_behind blocks line (Case n) = blocks ++ line ∷ []
+open_behind blocks line Default = blocks ++ line ∷ []
+open_behind blocks line Otherwise = without_last blocks ++ line ∷ []
+open_behind blocks line TestEnd = without_last blocks
+open_behind blocks line ChooseEnd = without_last blocks
+open_behind blocks line RepeatEnd = without_last blocks
+open_behind blocks line CaseEnd = without_last blocks
+open_behind blocks line (Macro name ps) = line ∷ []
+open_behind blocks line MacroEnd = 0 ∷ []
+open_behind blocks line f = blocks
+
+-- the jump label that a statement in these blocks is
+abbrev pub marked_by : List ℕ → Form → List Marked
+marked_by blocks (Mark name) = record { name = name; blocks = blocks } ∷ []
+marked_by blocks f = []
+
+-- the jump labels of statements, the first in these blocks
+abbrev pub marked_from : List ℕ → List Statement → List Marked
+marked_from blocks [] = []
+marked_from blocks (s ∷ ss) = marked_by blocks s.form ++ marked_from (open_behind blocks s.line s.form) ss
+
+-- outside of macros all stands in one block, that of line 0
+abbrev pub outermost : List ℕ
+outermost = 0 ∷ []
+
+-- whether a label is the one of this name, in one of these blocks
+abbrev pub is_reached : List ℕ → List ℕ → Marked → Bool
+is_reached blocks name l = bytes_eq name l.name && starts_with nat_eq blocks l.blocks
+
+-- whether a jump in these blocks goes to a label in one of them: none leads into a block
+abbrev pub is_in_reach : List Marked → List ℕ → List ℕ → Bool
+is_in_reach labels blocks name = list_any (is_reached blocks name) labels
 
 -- ---- names
 
@@ -176,5 +214,5 @@ doubts_of text ls ss = record {
   set = set_within false ss;
   parameters = sets_parameters (set_within false ss) ss;
   splits = splits_from false ls;
-  labels = labels_in ss;
+  labels = marked_from outermost ss;
 }

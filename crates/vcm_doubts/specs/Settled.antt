@@ -21,7 +21,7 @@ use Rattle.vcm_events.specs.Events.{lost, gained}
 use Rattle.vcm_events.specs.Unknown.{unknown, unknown_rounds}
 use Rattle.vcm_macro.specs.Rules.{is_there}
 use Rattle.vcm_num.specs.declared.limits.TheConstants.{MOST_PARAMETERS}
-use Rattle.vcm_doubts.specs.Doubts.{Doubts, is_among, sets, doubts_of}
+use Rattle.vcm_doubts.specs.Doubts.{Doubts, is_among, sets, open_behind, outermost, is_in_reach, doubts_of}
 
 -- ---- calls
 
@@ -31,14 +31,15 @@ pub record Known : Type 0 where
   pub parameters : List Parameter
   pub set : List (List ℕ)
 
--- the macros that end above, and the one that is open
+-- the macros that end above, and the one that is open; and the blocks that are
 pub record Macros : Type 0 where
   pub above : List Known
   pub current : Option Known
+  pub blocks : List ℕ
 
 -- no macro stands above
 abbrev pub no_macros : Macros
-no_macros = record { above = []; current = None }
+no_macros = record { above = []; current = None; blocks = outermost }
 
 -- a macro that begins
 abbrev pub begun : List ℕ → List Parameter → Known
@@ -55,10 +56,14 @@ ended ms None = ms
 ended ms (Some m) = m ∷ ms
 
 -- the macros behind a statement
-abbrev pub macros_behind : Macros → Form → Macros
-macros_behind ms (form.Macro name ps) = record ms { current = Some (begun name ps) }
-macros_behind ms form.MacroEnd = record { above = ended ms.above ms.current; current = None }
-macros_behind ms f = record ms { current = gone_on f ms.current }
+abbrev pub known_behind : Macros → Form → Macros
+known_behind ms (form.Macro name ps) = record ms { current = Some (begun name ps) }
+known_behind ms form.MacroEnd = record ms { above = ended ms.above ms.current; current = None }
+known_behind ms f = record ms { current = gone_on f ms.current }
+
+-- the macros and the blocks behind a statement on a line
+abbrev pub macros_behind : Macros → ℕ → Form → Macros
+macros_behind ms line f = record (known_behind ms f) { blocks = open_behind ms.blocks line f }
 
 -- whether an argument is what a parameter wants where the body sets these variables: a name for a quoted one, else a value, and the body doesn't set it
 abbrev pub fits : List (List ℕ) → Parameter → Argument → Bool
@@ -120,18 +125,13 @@ abbrev pub either : Bool → Form → Form → Form
 either true f g = g
 either false f g = f
 
--- a statement that is left out where something is in doubt
-abbrev pub left_out : Bool → Form → List Form
-left_out true f = []
-left_out false f = f ∷ []
-
 -- a point by the direction of its feature: it isn't tried where a name is spelled in two ways
 abbrev pub settled_point : List (List ℕ) → Coordinates → Form
 settled_point [] p = form.Touch p None
 settled_point (name ∷ names) p = gained events.UntriedPoint
 
 -- what becomes of a statement
-abbrev pub settled_form : Doubts → List Known → Form → List Form
+abbrev pub settled_form : Doubts → Macros → Form → List Form
 settled_form d ms (form.Assignment t value) = form.Assignment t (unless (is_unfollowed d t.name) value) ∷ []
 settled_form d ms (form.Query t side l word) =
     either (is_unfollowed d t.name || is_among d.spelled l) (form.Query t side l word) (form.Assignment t unknown) ∷ []
@@ -139,17 +139,17 @@ settled_form d ms (form.Test c) = form.Test (unless d.splits c) ∷ []
 settled_form d ms (form.Choose c) = form.Choose (unless d.splits c) ∷ []
 settled_form d ms (form.Repeat r) = form.Repeat (rounds_unless (d.splits || is_unfollowed d r.variable.name) r) ∷ []
 settled_form d ms (form.Restore l) = either (is_among d.spelled l) (form.Restore l) (lost events.Frame) ∷ []
-settled_form d ms (form.Report side l) = left_out (is_among d.spelled l) (form.Report side l)
+settled_form d ms (form.Report side l) = either (is_among d.spelled l) (form.Report side l) (gained events.Unreported) ∷ []
 settled_form d ms (form.Touch p None) = settled_point d.spelled p ∷ []
-settled_form d ms (form.Leap name) = either (not (is_among d.labels name) || is_among d.spelled name) (form.Leap name) (gained events.Ends) ∷ []
-settled_form d ms (form.Call name args) = either (is_doubtful_call d ms name args) (form.Call name args) (lost events.All) ∷ []
+settled_form d ms (form.Leap name) = either (not (is_in_reach d.labels ms.blocks name) || is_among d.spelled name) (form.Leap name) (gained events.Ends) ∷ []
+settled_form d ms (form.Call name args) = either (is_doubtful_call d ms.above name args) (form.Call name args) (lost events.All) ∷ []
 settled_form d ms f = f ∷ []
 
 -- what becomes of statements, one behind the other
 abbrev pub settled_from : Doubts → Macros → List Statement → List Statement
 settled_from d ms [] = []
 settled_from d ms (s ∷ ss) =
-    map (λ f. record { line = s.line; form = f }) (settled_form d ms.above s.form) ++ settled_from d (macros_behind ms s.form) ss
+    map (λ f. record { line = s.line; form = f }) (settled_form d ms s.form) ++ settled_from d (macros_behind ms s.line s.form) ss
 
 -- what becomes of the statements that the lines of a text say
 abbrev pub settled : List ℕ → List Logical → List Statement → List Statement

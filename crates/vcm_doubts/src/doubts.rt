@@ -4,8 +4,9 @@ ghost use Rattle.std.specs.Prelude.{◌≡◌, IfOk};
 ghost use Rattle.vcm_doubts.specs.Doubts.{doubts_of};
 
 use crate::names::{
-    have_word, is_among, is_word, labels_in, names_in, set_within, sets_parameters, shared_within,
+    have_word, is_among, is_word, names_in, set_within, sets_parameters, shared_within,
 };
+use crate::reach::{Marked, has_reached, labels_of};
 use crate::respelled::twice_in;
 use crate::splitting::splits;
 use std::alloc::Global;
@@ -31,7 +32,7 @@ pub(crate) struct Doubts {
     /// A word of it may split a block.
     splits: bool,
     /// Its jump labels.
-    labels: Items<Name>,
+    labels: Items<Marked>,
 }
 
 impl Model for Doubts {
@@ -45,7 +46,7 @@ impl Model for Doubts {
 impl Doubts {
     ghost use Rattle.std.specs.Prelude.{◌||◌};
     ghost use Rattle.vcm_doubts.specs.inner.Instead.{are_names};
-    ghost use Rattle.vcm_doubts.specs.Doubts.{doubts_of, is_among};
+    ghost use Rattle.vcm_doubts.specs.Doubts.{doubts_of, is_among, is_in_reach};
     ghost use Rattle.vcm_doubts.specs.Settled.{is_unfollowed};
 
     /// What a text leaves in doubt, whose statements say this.
@@ -68,7 +69,7 @@ impl Doubts {
         let shared = shared_within(alloc, lines, said)?;
         let changed = set_within(alloc, said)?;
         let parameters = sets_parameters(changed.as_slice(), said);
-        let labels = labels_in(alloc, said)?;
+        let labels = labels_of(alloc, said)?;
         Ok(Doubts {
             spelled,
             twofold,
@@ -125,10 +126,10 @@ impl Doubts {
         self.splits
     }
 
-    /// Whether there is a jump label with this name.
-    pub(crate) fn has_label(&self, name: &[u8]) -> bool
-        ensures { result ≡ is_among self.now.labels name.now }
+    /// Whether a jump in these blocks goes to a label in one of them.
+    pub(crate) fn reaches(&self, blocks: &[u32], name: &[u8]) -> bool
+        ensures { result ≡ is_in_reach self.now.labels blocks.now name.now }
     {
-        is_among(self.labels.as_slice(), name)
+        has_reached(self.labels.as_slice(), blocks, name)
     }
 }

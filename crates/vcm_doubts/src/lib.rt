@@ -6,6 +6,7 @@ mod doubts;
 pub mod laws;
 mod macros;
 mod names;
+mod reach;
 mod respelled;
 mod settling;
 mod spellings;

@@ -5,6 +5,7 @@ ghost use Rattle.std.specs.List.{list_any};
 ghost use Rattle.vcm_doubts.specs.Settled.{begun, fits, all_fit, is_called};
 
 use crate::names::{add_set, is_among};
+use crate::reach::{go_behind, outermost};
 use std::alloc::Global;
 use std::marker::Model;
 use vcm_forms::{Argument, Form, Parameter};
@@ -115,11 +116,12 @@ fn has_called(macros: &[Known], name: &[u8], arguments: &[Argument]) -> bool
     macros.iter().any(|known| known.is_called(name, arguments))
 }
 
-/// The macros that end above, and the one that is open. Contracts see it as the `Macros` of the definitions.
+/// The macros that end above, and the one that is open; and the blocks that are. Contracts see it as the `Macros` of the definitions.
 #[derive(Drop)]
 pub(crate) struct Macros {
     above: Vec<Known>,
     current: Option<Known>,
+    blocks: Vec<u32>,
 }
 
 impl Model for Macros {
@@ -128,21 +130,29 @@ impl Model for Macros {
 
     ghost Value = { Meaning };
 
-    ghost view = { λ m. record { above = reverse m.above.items; current = m.current } };
+    ghost view = { λ m. record { above = reverse m.above.items; current = m.current; blocks = m.blocks.items } };
 }
 
 impl Macros {
     ghost use Rattle.std.specs.Prelude.{Some, None};
-    ghost use Rattle.vcm_doubts.specs.Settled.{no_macros, gone_on, ended, macros_behind};
+    ghost use Rattle.vcm_doubts.specs.Settled.{no_macros, gone_on, ended, known_behind, macros_behind};
 
     /// No macro stands above.
-    pub(crate) fn new(alloc: Global) -> Macros
-        ensures { result ≡ no_macros }
+    pub(crate) fn new(alloc: Global) -> Result<Macros, NoMemory>
+        ensures { IfOk result (λ ms. ms ≡ no_macros) }
     {
-        Macros {
+        Ok(Macros {
             above: Vec::new(alloc),
             current: None,
-        }
+            blocks: outermost(alloc)?,
+        })
+    }
+
+    /// The blocks that are open, the outermost first.
+    pub(crate) fn blocks(&self) -> &[u32]
+        ensures { result.now ≡ self.now.blocks }
+    {
+        &self.blocks
     }
 
     /// Whether a macro above may be called by this name with these arguments.
@@ -168,7 +178,7 @@ impl Macros {
 
     // A macro ends.
     fn end(&mut self) -> Result<(), NoMemory>
-        ensures { OnOk result (self.new ≡ record { above = ended self.old.above self.old.current; current = None }) }
+        ensures { OnOk result (self.new ≡ record self.old { above = ended self.old.above self.old.current; current = None }) }
     {
         match self.current.take() {
             Some(known) => {
@@ -193,18 +203,26 @@ impl Macros {
         }
     }
 
-    /// A statement is passed.
-    ///
-    /// # Errors
-    ///
-    /// Out of memory.
-    pub(crate) fn pass(&mut self, alloc: Global, form: &Form) -> Result<(), NoMemory>
-        ensures { OnOk result (self.new ≡ macros_behind self.old form.now) }
+    // A statement is passed by its macro.
+    fn know(&mut self, alloc: Global, form: &Form) -> Result<(), NoMemory>
+        ensures { OnOk result (self.new ≡ known_behind self.old form.now) }
     {
         match form {
             Form::Macro(name, parameters) => self.begin(alloc, name, parameters.as_slice()),
             Form::MacroEnd => self.end(),
             _ => self.go_on(form),
         }
+    }
+
+    /// A statement on a line is passed.
+    ///
+    /// # Errors
+    ///
+    /// Out of memory.
+    pub(crate) fn pass(&mut self, alloc: Global, line: u32, form: &Form) -> Result<(), NoMemory>
+        ensures { OnOk result (self.new ≡ macros_behind self.old line form.now) }
+    {
+        self.know(alloc, form)?;
+        go_behind(&mut self.blocks, line, form)
     }
 }

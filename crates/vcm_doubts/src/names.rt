@@ -4,7 +4,7 @@ ghost use Rattle.std.specs.Prelude.{◌≡◌, ◌++◌, [], nat_eq, if◌then�
 ghost use Rattle.std.specs.List.{list_any};
 ghost use Rattle.vcm_macro.specs.Order.{is_open_behind};
 ghost use Rattle.vcm_heads.specs.Rows.{words_of};
-ghost use Rattle.vcm_doubts.specs.Doubts.{is_among, sets, set_within, is_one_set, sets_parameter, sets_parameters, is_sharing, sharing_lines, declared_by, shared_within, labels_by, labels_in, parameter_names, name_of, listed_name, names_by, names_in};
+ghost use Rattle.vcm_doubts.specs.Doubts.{is_among, sets, set_within, is_one_set, sets_parameter, sets_parameters, is_sharing, sharing_lines, declared_by, shared_within, parameter_names, name_of, listed_name, names_by, names_in};
 
 use std::alloc::Global;
 use vcm_forms::{Form, Parameter, Statement};
@@ -184,30 +184,6 @@ pub(crate) fn shared_within(
 {
     let numbers = sharing_lines(alloc, lines)?;
     shared_on(alloc, numbers.as_slice(), statements)
-}
-
-// The jump label that a statement is.
-fn add_label(names: &mut Items<Name>, form: &Form) -> Result<(), NoMemory>
-    ensures { OnOk result (names.new ≡ names.old ++ labels_by form.now) }
-{
-    match form {
-        Form::Mark(name) => {
-            names.push(name.copy())?;
-            Ok(())
-        }
-        _ => Ok(()),
-    }
-}
-
-/// The jump labels of statements.
-pub(crate) fn labels_in(alloc: Global, statements: &[Statement]) -> Result<Items<Name>, NoMemory>
-    ensures { IfOk result (λ names. names ≡ labels_in statements.now) }
-{
-    let mut names = Items::new(alloc);
-    for statement in statements {
-        add_label(&mut names, &statement.form)?;
-    }
-    Ok(names)
 }
 
 // The name that a statement has.

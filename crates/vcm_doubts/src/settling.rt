@@ -96,7 +96,7 @@ fn is_doubtful_point(doubts: &Doubts, given: &Option<Axis>) -> bool
 
 // Whether something of a statement is in doubt.
 fn is_in_doubt(doubts: &Doubts, macros: &Macros, form: &Form) -> bool
-    ensures { result ≡ is_in_doubt doubts.now macros.now.above form.now }
+    ensures { result ≡ is_in_doubt doubts.now macros.now form.now }
 {
     match form {
         Form::Assignment(target, _) => doubts.is_unfollowed(target.name.as_bytes()),
@@ -114,7 +114,7 @@ fn is_in_doubt(doubts: &Doubts, macros: &Macros, form: &Form) -> bool
         Form::Touch(_, given) => is_doubtful_point(doubts, given),
         Form::Leap(name) => {
             let name = name.as_bytes();
-            !doubts.has_label(name) || doubts.is_spelled_twice(name)
+            !doubts.reaches(macros.blocks(), name) || doubts.is_spelled_twice(name)
         }
         Form::Call(name, arguments) => {
             is_doubtful_call(doubts, macros, name, arguments.as_slice())
@@ -145,6 +145,7 @@ fn instead(form: &Form) -> Option<Form>
         Form::Restore(_) => Some(lost(Event::Frame)),
         Form::Touch(_, _) => Some(gained(Event::UntriedPoint)),
         Form::Leap(_) => Some(gained(Event::Ends)),
+        Form::Report(_, _) => Some(gained(Event::Unreported)),
         Form::Call(_, _) => Some(lost(Event::All)),
         _ => None,
     }
@@ -185,11 +186,11 @@ fn settle_statement(
     macros: &mut Macros,
     statement: Statement,
 ) -> Result<(), NoMemory>
-    ensures put { OnOk result (out.new.items ≡ out.old.items ++ map (λ f. record { line = statement.line; form = f }) (settled_form doubts.now macros.old.above statement.form)) }
-    ensures macros { OnOk result (macros.new ≡ macros_behind macros.old statement.form) }
+    ensures put { OnOk result (out.new.items ≡ out.old.items ++ map (λ f. record { line = statement.line; form = f }) (settled_form doubts.now macros.old statement.form)) }
+    ensures macros { OnOk result (macros.new ≡ macros_behind macros.old statement.line statement.form) }
 {
     let doubtful = is_in_doubt(doubts, macros, &statement.form);
-    macros.pass(alloc, &statement.form)?;
+    macros.pass(alloc, statement.line, &statement.form)?;
     put(out, doubtful, statement)
 }
 
@@ -202,7 +203,7 @@ fn settle_all(
     ensures { IfOk result (λ ss. ss.items ≡ settled_from doubts.now no_macros said.items) }
 {
     let mut out = Vec::new(alloc);
-    let mut macros = Macros::new(alloc);
+    let mut macros = Macros::new(alloc)?;
     for statement in said {
         settle_statement(alloc, &mut out, doubts, &mut macros, statement)?;
     }

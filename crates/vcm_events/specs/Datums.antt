@@ -13,6 +13,7 @@ use Rattle.vcm_forms.specs.Statements.{as_read}
 use Rattle.vcm_forms.specs.declared.statement.Offset.{Offset}
 use Rattle.vcm_forms.specs.declared.statement.Form.{Form}
 use Rattle.vcm_forms.specs.declared.statement.Form.TheVariants.{Query}
+use Rattle.vcm_events.specs.declared.event.Event.{Event}
 use Rattle.vcm_events.specs.declared.event.Event.TheVariants.{Bind, Origin}
 use Rattle.vcm_events.specs.Events.{event_name}
 
@@ -22,9 +23,13 @@ coordinate_of axes.X = words.X
 coordinate_of axes.Y = words.Y
 coordinate_of axes.Z = words.Z
 
+-- something happens to the frame or feature with this name
+abbrev pub happens_to : Event → List ℕ → Form
+happens_to e name = Query (as_read (event_name e)) Actual name words.X
+
 -- a datum is defined as the feature with this name
 abbrev pub bound : List ℕ → Form
-bound f = Query (as_read (event_name Bind)) Actual f words.X
+bound f = happens_to Bind f
 
 -- the origin of a frame along an axis lies on the feature with this name
 abbrev pub origin_on : FrameAxis → List ℕ → Form

@@ -8,7 +8,7 @@ use Rattle.vcm_forms.specs.declared.statement.Form.{Form}
 use Rattle.vcm_forms.specs.declared.statement.Form.TheVariants.{Assignment}
 use Rattle.vcm_forms.specs.Statements.{as_read}
 use Rattle.vcm_events.specs.declared.event.Event.{Event}
-use Rattle.vcm_events.specs.declared.event.Event.TheVariants.{Mode, OwnPoints, Table, Scanning, Unit, Approach, Search, Retract, Clearance, Compensation, Qualification, Target, Place, Untried, UntriedPoint, Values, Features, Frames, Frame, Saving, Machine, Points, Sensor, Angle, Plane, Polar, PolarMotion, PolarPoint, Bind, Origins, Origin, CaseValue, CaseBegins, Ends, All}
+use Rattle.vcm_events.specs.declared.event.Event.TheVariants.{Mode, OwnPoints, Table, Scanning, Unit, Approach, Search, Retract, Clearance, Compensation, Qualification, Target, Place, Untried, UntriedPoint, Values, Features, Frames, Frame, Saving, Machine, Points, Sensor, Angle, Plane, Polar, PolarMotion, PolarPoint, Bind, Origins, Origin, CaseValue, DropFrame, DropFeature, StoreFrame, Width, Remake, Depth, Unreported, CaseBegins, Ends, All}
 
 -- the names of the variables of events: no text can write them, since a variable of a text begins with a letter
 abbrev pub event_name : Event → List ℕ
@@ -44,6 +44,13 @@ event_name Bind = codes "0BIND"
 event_name Origins = codes "0ORIGINS"
 event_name Origin = codes "0ORIGIN"
 event_name CaseValue = codes "0CASEVALUE"
+event_name DropFrame = codes "0DROPFRAME"
+event_name DropFeature = codes "0DROPFEATURE"
+event_name StoreFrame = codes "0STOREFRAME"
+event_name Width = codes "0WIDTH"
+event_name Remake = codes "0REMAKE"
+event_name Depth = codes "0DEPTH"
+event_name Unreported = codes "0UNREPORTED"
 event_name CaseBegins = codes "0CASEBEGINS"
 event_name Ends = codes "0ENDS"
 event_name All = codes "0ALL"
@@ -83,6 +90,13 @@ event_named name = look_up
     ∷ (codes "0ORIGINS", Origins)
     ∷ (codes "0ORIGIN", Origin)
     ∷ (codes "0CASEVALUE", CaseValue)
+    ∷ (codes "0DROPFRAME", DropFrame)
+    ∷ (codes "0DROPFEATURE", DropFeature)
+    ∷ (codes "0STOREFRAME", StoreFrame)
+    ∷ (codes "0WIDTH", Width)
+    ∷ (codes "0REMAKE", Remake)
+    ∷ (codes "0DEPTH", Depth)
+    ∷ (codes "0UNREPORTED", Unreported)
     ∷ (codes "0CASEBEGINS", CaseBegins)
     ∷ (codes "0ENDS", Ends)
     ∷ (codes "0ALL", All)

@@ -3,7 +3,7 @@
 ghost use Rattle.std.specs.Prelude.{◌≡◌};
 ghost use Rattle.vcm_forms.specs.Statements.{as_read};
 ghost use Rattle.vcm_events.specs.Events.{event_name};
-ghost use Rattle.vcm_events.specs.Datums.{coordinate_of, bound, origin_on, origin_length, is_origin, are_origins};
+ghost use Rattle.vcm_events.specs.Datums.{coordinate_of, happens_to, bound, origin_on, origin_length, is_origin, are_origins};
 
 use crate::event::Event;
 use vcm_expr::{Expr, Term};
@@ -33,16 +33,18 @@ fn target_of(event: Event) -> Target
     }
 }
 
+/// Something happens to the frame or feature with this name.
+pub fn happens_to(event: Event, name: Name) -> Form
+    ensures { result ≡ happens_to event name }
+{
+    Form::Query(target_of(event), Source::Actual, name, FeatureWord::X)
+}
+
 /// A datum is defined as the feature with this name.
 pub fn bound(feature: Name) -> Form
     ensures { result ≡ bound feature }
 {
-    Form::Query(
-        target_of(Event::Bind),
-        Source::Actual,
-        feature,
-        FeatureWord::X,
-    )
+    happens_to(Event::Bind, feature)
 }
 
 /// The origin of a frame along an axis lies on the feature with this name.

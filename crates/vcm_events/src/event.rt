@@ -77,6 +77,20 @@ pub enum Event {
     Origin,
     /// One more value of a CASE.
     CaseValue,
+    /// A frame that is saved is deleted: said as an OBTAIN of its name.
+    DropFrame,
+    /// A feature is deleted, or changes: said as an OBTAIN of it.
+    DropFeature,
+    /// A frame is kept elsewhere: said as an OBTAIN of its name.
+    StoreFrame,
+    /// A tip of another width than the part's is selected.
+    Width,
+    /// A feature is made of others, and has another measured value: said as an OBTAIN of it.
+    Remake,
+    /// A setting that isn't about points of the text.
+    Depth,
+    /// Output that isn't written.
+    Unreported,
     /// The block of a CASE begins, behind its values.
     CaseBegins,
     /// A jump to a label that stands nowhere: it isn't known how the program goes on.
@@ -123,6 +137,13 @@ impl Event {
             Event::Origins => b"0ORIGINS",
             Event::Origin => b"0ORIGIN",
             Event::CaseValue => b"0CASEVALUE",
+            Event::DropFrame => b"0DROPFRAME",
+            Event::DropFeature => b"0DROPFEATURE",
+            Event::StoreFrame => b"0STOREFRAME",
+            Event::Width => b"0WIDTH",
+            Event::Remake => b"0REMAKE",
+            Event::Depth => b"0DEPTH",
+            Event::Unreported => b"0UNREPORTED",
             Event::CaseBegins => b"0CASEBEGINS",
             Event::Ends => b"0ENDS",
             Event::All => b"0ALL",
@@ -167,6 +188,13 @@ impl Event {
                 (b"0ORIGINS", Event::Origins),
                 (b"0ORIGIN", Event::Origin),
                 (b"0CASEVALUE", Event::CaseValue),
+                (b"0DROPFRAME", Event::DropFrame),
+                (b"0DROPFEATURE", Event::DropFeature),
+                (b"0STOREFRAME", Event::StoreFrame),
+                (b"0WIDTH", Event::Width),
+                (b"0REMAKE", Event::Remake),
+                (b"0DEPTH", Event::Depth),
+                (b"0UNREPORTED", Event::Unreported),
                 (b"0CASEBEGINS", Event::CaseBegins),
                 (b"0ENDS", Event::Ends),
                 (b"0ALL", Event::All),

@@ -7,7 +7,7 @@ mod joined;
 mod not_known;
 mod spots;
 
-pub use datums::{are_origins, bound, is_origin, origin_length, origin_on};
+pub use datums::{are_origins, bound, happens_to, is_origin, origin_length, origin_on};
 pub use event::{Event, gained, lost, numbered, valued};
 pub use joined::{joined as join, length, pair, whole};
 pub use not_known::{unknown, unknown_place, unknown_rounds};

@@ -15,8 +15,9 @@ use Rattle.vcm_forms.specs.declared.statement.Form.{Form}
 use Rattle.vcm_forms.specs.declared.statement.Form.TheVariants as form
 use Rattle.vcm_forms.specs.declared.statement.Statement.{Statement}
 use Rattle.vcm_forms.specs.Statements.{as_read}
+use Rattle.vcm_events.specs.declared.event.Event.{Event}
 use Rattle.vcm_events.specs.declared.event.Event.TheVariants as events
-use Rattle.vcm_events.specs.Events.{event_name, gained}
+use Rattle.vcm_events.specs.Events.{event_name, event_form, lost, gained}
 use Rattle.vcm_events.specs.Joined.{length_of}
 use Rattle.vcm_events.specs.Spots.{leg, slanted, pointed, tip_said}
 use Rattle.vcm_num.specs.declared.axis.Axis.{Axis}
@@ -33,15 +34,21 @@ use Rattle.vcm_given.specs.declared.choices.Answer.{Answer}
 use Rattle.vcm_given.specs.declared.choices.Choices.{Choices}
 use Rattle.vcm_given.specs.declared.answers.Asked.{Asked}
 use Rattle.vcm_given.specs.Values.{given_value}
+use Rattle.vcm_given.specs.declared.spoken.Saying.{Saying}
+use Rattle.vcm_given.specs.declared.spoken.Saying.TheVariants.{Harmless, Back, Same}
+use Rattle.vcm_given.specs.declared.spoken.Spoken.{Spoken}
+use Rattle.vcm_given.specs.declared.tips.OtherTip.{OtherTip}
+use Rattle.vcm_given.specs.Spoken.{spoken, saying_at}
+use Rattle.vcm_given.specs.Tips.{other_tips, is_other_at}
 
 -- choices that leave everything as the text says it, for a tip that is a point
 abbrev pub no_choices : Choices
-no_choices = record { approach = None; retract = None; search = None; frames = []; answers = []; is_auto = false; is_approached = false; tip = pos 0 }
+no_choices = record { approach = None; retract = None; search = None; frames = []; answers = []; is_auto = false; is_approached = false; tip = pos 0; harmless = []; table = None }
 
--- whether a length is left to the text
-abbrev pub is_left : Option ℤ → Bool
+-- whether something is left to the text
+abbrev pub is_left : {A : Type 0} → Option A → Bool
 is_left None = true
-is_left (Some n) = false
+is_left (Some x) = false
 
 -- whether there is none
 abbrev pub is_empty : {A : Type 0} → List A → Bool
@@ -51,7 +58,8 @@ is_empty (x ∷ xs) = false
 -- whether choices say nothing of a text that is read in one way; how MODE/AUTO is read and how wide the tip is changes none
 abbrev pub is_silent : Choices → Bool
 is_silent c =
-    is_left c.approach && (is_left c.retract && (is_left c.search && (is_empty c.frames && (is_empty c.answers && not c.is_approached))))
+    is_left c.approach && (is_left c.retract && (is_left c.search && (is_empty c.frames && (is_empty c.answers && (not c.is_approached
+    && (is_empty c.harmless && is_left c.table))))))
 
 -- ---- frames
 
@@ -154,11 +162,49 @@ touched true p (Some axis) = approached_by p (direction_of axis)
 touched true p None = pointed p
 
 -- what a statement on a line is, with what is given
-abbrev pub chosen_form : Choices → List Asked → ℕ → Form → List Form
-chosen_form c qs line (form.Assignment t value) = assigned c.is_auto t.name (form.Assignment t value) (answered t.name (asked_at line qs))
-chosen_form c qs line (form.Shift name os) = shifted c.frames name os
-chosen_form c qs line (form.Touch p d) = touched c.is_approached p d ∷ []
-chosen_form c qs line f = f ∷ []
+abbrev pub given_form : Choices → List Asked → ℕ → Form → List Form
+given_form c qs line (form.Assignment t value) = assigned c.is_auto t.name (form.Assignment t value) (answered t.name (asked_at line qs))
+given_form c qs line (form.Shift name os) = shifted c.frames name os
+given_form c qs line (form.Touch p d) = touched c.is_approached p d ∷ []
+given_form c qs line f = f ∷ []
+
+-- whether a statement is this event
+abbrev pub is_event : Event → Form → Bool
+is_event e (form.Assignment t value) = bytes_eq t.name (event_name e)
+is_event e f = false
+
+-- whether a statement may do anything, or calls something: it says nothing where that is harmless
+abbrev pub is_dropped : Form → Bool
+is_dropped (form.Call name args) = true
+is_dropped f = is_event events.All f
+
+-- whether it says nothing, by what is said of it
+abbrev pub is_dropped_by : Option Saying → Form → Bool
+is_dropped_by (Some Harmless) f = is_dropped f
+is_dropped_by s f = false
+
+-- whether it makes the table known again
+abbrev pub is_back_by : Option Saying → Form → Bool
+is_back_by (Some Back) f = is_event events.Table f
+is_back_by s f = false
+
+-- a statement of which something is said
+abbrev pub spoken_form : Option Saying → Form → List Form → List Form
+spoken_form s f fs = if is_dropped_by s f then [] else if is_back_by s f then gained events.Table ∷ [] else fs
+
+-- the selection of a sensor that was selected before, by the line of that
+abbrev pub again : Option Saying → Form → Form
+again (Some (Same n)) f = if is_event events.Sensor f then event_form events.Sensor (pos n) else f
+again s f = f
+
+-- that a tip of another width is put on, behind the sensor
+abbrev pub width_said : Bool → Form → List Form
+width_said other f = if other && is_event events.Sensor f then lost events.Width ∷ [] else []
+
+-- what a statement on a line is, with what is said of the line
+abbrev pub chosen_form : Choices → List Asked → List Spoken → List OtherTip → ℕ → Form → List Form
+chosen_form c qs ps ts line f =
+    spoken_form (saying_at line ps) f (given_form c qs line (again (saying_at line ps) f) ++ width_said (is_other_at line ts) f)
 
 -- a setting that is given
 abbrev pub setting : Setting → Option ℤ → List Form
@@ -183,10 +229,13 @@ abbrev pub on_line : ℕ → List Form → List Statement
 on_line line fs = map (λ f. record { line = line; form = f }) fs
 
 -- a statement, with what is given
-abbrev pub chosen_statement : Choices → List Asked → Statement → List Statement
-chosen_statement c qs s = on_line s.line (chosen_form c qs s.line s.form)
+abbrev pub chosen_statement : Choices → List Asked → List Spoken → List OtherTip → Statement → List Statement
+chosen_statement c qs ps ts s = on_line s.line (chosen_form c qs ps ts s.line s.form)
 
--- the statements that the lines of a text say, of which the first two open it, with what is given
+-- statements, of which the first two open their text, with what is given, by what their lines ask for and what is said of them
+abbrev pub chosen_by : Choices → List Asked → List Spoken → List OtherTip → List Statement → List Statement
+chosen_by c qs ps ts ss = take 2 ss ++ (on_line 1 (chosen_first c) ++ flat_map (chosen_statement c qs ps ts) (drop 2 ss))
+
+-- the statements that the lines of a text say, with what is given
 abbrev pub chosen : Choices → List Logical → List Statement → List Statement
-chosen c ls ss =
-    take 2 ss ++ (on_line 1 (chosen_first c) ++ flat_map (chosen_statement c (asked_from c.answers false ls)) (drop 2 ss))
+chosen c ls ss = chosen_by c (asked_from c.answers false ls) (spoken c.harmless c.table ls) (other_tips c.tip ls) ss

@@ -1,3 +1,6 @@
 pub mod Values
+pub mod Fields
+pub mod Tips
+pub mod Spoken
 pub mod Chosen
 pub mod Unused

@@ -13,6 +13,8 @@ use Rattle.vcm_given.specs.declared.choices.Choices.{Choices}
 use Rattle.vcm_given.specs.declared.answers.Asked.{Asked}
 use Rattle.vcm_given.specs.declared.unused.Above.{Above}
 use Rattle.vcm_given.specs.declared.unused.TheConstants.{DEEPEST}
+use Rattle.vcm_heads.specs.Rows.{row_in, words_of}
+use Rattle.vcm_given.specs.Spoken.{goes_by}
 use Rattle.vcm_given.specs.Chosen.{asked_from}
 
 -- ---- frames
@@ -107,6 +109,18 @@ abbrev pub name_or : Option (List ℕ) → Option (List ℕ) → Option (List �
 name_or None other = other
 name_or (Some name) other = Some name
 
--- the first name that is given and that the text never uses: a frame that no statement takes as it is given, or a variable that no question asks for
+-- ---- harmless words
+
+-- whether a statement goes by this word
+abbrev pub is_gone_by : List ℕ → Logical → Bool
+is_gone_by name l = goes_by (row_in (words_of l)) (words_of l) name
+
+-- the first word that no statement goes by
+abbrev pub unspoken : List Logical → List (List ℕ) → Option (List ℕ)
+unspoken ls [] = None
+unspoken ls (n ∷ ns) = if list_any (is_gone_by n) ls then unspoken ls ns else Some n
+
+-- the first name that is given and that the text never uses: a frame that no statement takes as it is given, a variable that no question asks for, or a harmless word
+-- that no statement goes by
 abbrev pub unused : Choices → List Logical → List Statement → Option (List ℕ)
-unused c ls ss = name_or (unmade ss c.frames) (unasked (asked_from c.answers false ls) c.answers)
+unused c ls ss = name_or (unmade ss c.frames) (name_or (unasked (asked_from c.answers false ls) c.answers) (unspoken ls c.harmless))

@@ -53,6 +53,10 @@ pub struct Choices {
     pub is_approached: bool,
     /// Half the width of the tip.
     pub tip: i32,
+    /// Words that move nothing and set nothing, of statements that go by them and of CALLs that name them.
+    pub harmless: Items<Name>,
+    /// Where the rotary table stands at the start, in millionths of a degree.
+    pub table: Option<u64>,
 }
 
 impl Choices {
@@ -66,6 +70,8 @@ impl Choices {
             && self.frames.as_slice().is_empty()
             && self.answers.as_slice().is_empty()
             && !self.is_approached
+            && self.harmless.as_slice().is_empty()
+            && self.table.is_none()
     }
 
     /// Choices that leave everything as the text says it, for a tip that is a point.
@@ -81,6 +87,8 @@ impl Choices {
             is_auto: false,
             is_approached: false,
             tip: 0,
+            harmless: Items::new(alloc),
+            table: None,
         }
     }
 }

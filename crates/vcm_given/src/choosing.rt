@@ -1,21 +1,25 @@
 //! The statements of a text, with what is given.
 
-ghost use Rattle.std.specs.Prelude.{◌≡◌, ◌++◌, ◌∷◌, [], take, drop, List, IfOk, OnOk};
+ghost use Rattle.std.specs.Prelude.{◌≡◌, ◌++◌, ◌∷◌, [], take, drop, List, IfOk, OnOk, if◌then◌else◌};
 ghost use Rattle.std.specs.List.{flat_map};
 ghost use Rattle.std.specs.Option.{option_copied};
 ghost use Rattle.std.specs.Vec.Iter.{into_iter_items};
 ghost use Rattle.vcm_forms.specs.declared.statement.Form.TheVariants as form;
 ghost use Rattle.vcm_forms.specs.Statements.{as_read};
+ghost use Rattle.vcm_events.specs.declared.event.Event.TheVariants as events;
+ghost use Rattle.vcm_events.specs.Events.{lost};
 ghost use Rattle.vcm_given.specs.Values.{given_value};
-ghost use Rattle.vcm_given.specs.Chosen.{setting, direction_of, touched, chosen_settings, chosen_first, assigned, answered, shifted, chosen_statement, chosen, on_line};
+ghost use Rattle.vcm_given.specs.Chosen.{setting, direction_of, touched, chosen_settings, chosen_first, assigned, answered, shifted, given_form, is_event, is_dropped, is_dropped_by, is_back_by, again, width_said, chosen_statement, chosen_by, chosen, on_line};
 
 use crate::answers::{Asked, ask_all, asked_at, assignment_of, stands_behind};
 use crate::choices::{Answer, Choices};
 use crate::frames::{frame_named, place, place_all};
+use crate::spoken::{Saying, Spoken, saying_at, sayings_of};
 use crate::statements::add;
+use crate::tips::{OtherTip, is_other_at, other_tips};
 use std::alloc::Global;
 use std::vec::IntoIter;
-use vcm_events::{Event, gained, length as length_of, pointed, slanted, tip_said};
+use vcm_events::{Event, gained, length as length_of, lost, numbered, pointed, slanted, tip_said};
 use vcm_expr::Expr;
 use vcm_forms::{Coordinates, Form, Offset, Statement, Target};
 use vcm_items::Name;
@@ -176,18 +180,38 @@ fn put_touch(
     }
 }
 
+// Whether a statement is this event.
+fn is_event(event: Event, form: &Form) -> bool
+    ensures { result ≡ is_event event form.now }
+{
+    match form {
+        Form::Assignment(target, _) => is(target.name.as_bytes(), event.name()),
+        _ => false,
+    }
+}
+
+// Whether a statement may do anything, or calls something.
+fn is_dropped(form: &Form) -> bool
+    ensures { result ≡ is_dropped form.now }
+{
+    match form {
+        Form::Call(_, _) => true,
+        form => is_event(Event::All, form),
+    }
+}
+
 // A statement, with what is given.
-fn put(
+fn put_given(
     alloc: Global,
     out: &mut Vec<Statement>,
     choices: &Choices,
     asked: &[Asked],
-    statement: Statement,
+    line: u32,
+    form: Form,
 ) -> Result<(), NoMemory>
-    ensures { OnOk result (out.new.items ≡ out.old.items ++ chosen_statement choices.now asked.now statement) }
+    ensures { OnOk result (out.new.items ≡ out.old.items ++ on_line line (given_form choices.now asked.now line form)) }
 {
-    let line = statement.line;
-    match statement.form {
+    match form {
         Form::Assignment(target, value) => {
             let answer = asked_at(line, asked);
             put_assignment(alloc, out, line, choices.is_auto, target, value, answer)
@@ -200,18 +224,93 @@ fn put(
     }
 }
 
+// That a tip of another width is put on.
+fn put_width(out: &mut Vec<Statement>, line: u32, is_other: bool) -> Result<(), NoMemory>
+    ensures { OnOk result (out.new.items ≡ out.old.items ++ on_line line (if is_other then lost events.Width ∷ [] else [])) }
+{
+    if is_other {
+        add(out, line, lost(Event::Width))
+    } else {
+        Ok(())
+    }
+}
+
+// Whether a statement says nothing, by what is said of it.
+fn is_dropped_by(saying: Option<Saying>, form: &Form) -> bool
+    ensures { result ≡ is_dropped_by saying form.now }
+{
+    match saying {
+        Some(Saying::Harmless) => is_dropped(form),
+        _ => false,
+    }
+}
+
+// Whether it makes the table known again.
+fn is_back_by(saying: Option<Saying>, form: &Form) -> bool
+    ensures { result ≡ is_back_by saying form.now }
+{
+    match saying {
+        Some(Saying::Back) => is_event(Event::Table, form),
+        _ => false,
+    }
+}
+
+// The selection of a sensor that was selected before, by the line of that.
+fn again(saying: Option<Saying>, form: Form) -> Form
+    ensures { result ≡ again saying form }
+{
+    match saying {
+        Some(Saying::Same(first)) => {
+            if is_event(Event::Sensor, &form) {
+                numbered(Event::Sensor, i64::from(first))
+            } else {
+                form
+            }
+        }
+        _ => form,
+    }
+}
+
+// A statement, with what is given and what is said of its line.
+fn put(
+    alloc: Global,
+    out: &mut Vec<Statement>,
+    choices: &Choices,
+    asked: &[Asked],
+    spoken: &[Spoken],
+    tips: &[OtherTip],
+    statement: Statement,
+) -> Result<(), NoMemory>
+    ensures { OnOk result (out.new.items ≡ out.old.items ++ chosen_statement choices.now asked.now spoken.now tips.now statement) }
+{
+    let line = statement.line;
+    let form = statement.form;
+    let is_other = is_other_at(line, tips) && is_event(Event::Sensor, &form);
+    let saying = saying_at(line, spoken);
+    if is_dropped_by(saying, &form) {
+        return Ok(());
+    }
+    if is_back_by(saying, &form) {
+        return add(out, line, gained(Event::Table));
+    }
+    put_given(alloc, out, choices, asked, line, again(saying, form))?;
+    put_width(out, line, is_other)
+}
+
 // Statements, one behind the other, with what is given.
 fn put_all(
     alloc: Global,
     out: &mut Vec<Statement>,
     choices: &Choices,
     asked: &[Asked],
+    spoken: &[Spoken],
+    tips: &[OtherTip],
     said: IntoIter<Statement>,
 ) -> Result<(), NoMemory>
-    ensures { OnOk result (out.new.items ≡ out.old.items ++ flat_map (chosen_statement choices.now asked.now) (into_iter_items said)) }
+    ensures { OnOk result (out.new.items ≡ out.old.items ++ flat_map (chosen_statement choices.now asked.now spoken.now tips.now) (into_iter_items said)) }
 {
     for statement in said {
-        put(alloc, out, choices, asked, statement)?;
+        put(alloc, out, choices, asked, spoken, tips, statement)?;
     }
     Ok(())
 }
@@ -236,6 +335,25 @@ fn put_opening(out: &mut Vec<Statement>, said: &mut IntoIter<Statement>) -> Resu
     put_next(out, said)
 }
 
+// The same, by what the lines of the text ask for and by what the command line says of them.
+fn choose_by(
+    alloc: Global,
+    choices: &Choices,
+    asked: &[Asked],
+    spoken: &[Spoken],
+    tips: &[OtherTip],
+    said: Vec<Statement>,
+) -> Result<Vec<Statement>, NoMemory>
+    ensures { IfOk result (λ ss. ss.items ≡ chosen_by choices.now asked.now spoken.now tips.now said.items) }
+{
+    let mut out = Vec::new(alloc);
+    let mut said = said.into_iter();
+    put_opening(&mut out, &mut said)?;
+    put_first(alloc, &mut out, choices)?;
+    put_all(alloc, &mut out, choices, asked, spoken, tips, said)?;
+    Ok(out)
+}
+
 /// The statements that the lines of a text say, of which the first two open it, with what is given on the command line.
 ///
 /// # Errors
@@ -250,10 +368,14 @@ pub fn choose(
     ensures { IfOk result (λ ss. ss.items ≡ chosen choices.now lines.now said.items) }
 {
     let asked = ask_all(alloc, choices.answers.as_slice(), lines)?;
-    let mut out = Vec::new(alloc);
-    let mut said = said.into_iter();
-    put_opening(&mut out, &mut said)?;
-    put_first(alloc, &mut out, choices)?;
-    put_all(alloc, &mut out, choices, &asked, said)?;
-    Ok(out)
+    let spoken = sayings_of(alloc, choices.harmless.as_slice(), choices.table, lines)?;
+    let tips = other_tips(alloc, choices.tip, lines)?;
+    choose_by(
+        alloc,
+        choices,
+        &asked,
+        spoken.as_slice(),
+        tips.as_slice(),
+        said,
+    )
 }

@@ -4,13 +4,17 @@
 mod answers;
 mod choices;
 mod choosing;
+mod fields;
 mod frames;
+mod spoken;
 mod statements;
+mod tips;
 mod unused;
 mod values;
 
 pub use choices::{Answer, Choices, GivenFrame, Value};
 pub use choosing::choose;
+pub use tips::{OtherTip, Width, other_tips};
 pub use unused::first_unused;
 
 #[cfg(test)]

@@ -2,10 +2,12 @@
 
 ghost use Rattle.std.specs.Prelude.{◌≡◌, IfOk};
 ghost use Rattle.std.specs.Str.{bytes_eq};
-ghost use Rattle.vcm_given.specs.Unused.{is_this, hands_over, places, takes, makes, deeper, depth_behind, is_jump, nothing_above, above_behind, takes_at, is_taken, unmade, is_asked, unasked, unused};
+ghost use Rattle.vcm_given.specs.Unused.{is_this, hands_over, places, takes, makes, deeper, depth_behind, is_jump, nothing_above, above_behind, takes_at, is_taken, unmade, is_asked, unasked, is_gone_by, unspoken, unused};
+ghost use Rattle.std.specs.List.{list_any};
 
 use crate::answers::{Asked, ask_all};
 use crate::choices::{Answer, Choices, GivenFrame};
+use crate::spoken::goes_by;
 use std::alloc::Global;
 use vcm_forms::{Argument, Form, Statement};
 use vcm_items::Name;
@@ -184,7 +186,27 @@ fn unasked(all: &[Asked], answers: &[Answer]) -> Option<Name>
     None
 }
 
-/// The first name that is given and that the text never uses: a frame that no statement takes as it is given, or a variable that no question asks for.
+// Whether one of the statements goes by a word.
+fn is_spoken(lines: &[Logical], name: &Name) -> bool
+    ensures { result ≡ list_any (is_gone_by name.now) lines.now }
+{
+    lines.iter().any(|logical| goes_by(logical, name))
+}
+
+// The first word that no statement goes by.
+fn unspoken(lines: &[Logical], names: &[Name]) -> Option<Name>
+    ensures { result ≡ unspoken lines.now names.now }
+{
+    for name in names {
+        if !is_spoken(lines, name) {
+            return Some(name.copy());
+        }
+    }
+    None
+}
+
+/// The first name that is given and that the text never uses: a frame that no statement takes as it is given, a variable that no question asks for, or a harmless word that
+/// no statement goes by.
 ///
 /// # Errors
 ///
@@ -202,5 +224,8 @@ pub fn first_unused(
     }
     let answers = choices.answers.as_slice();
     let asked = ask_all(alloc, answers, lines)?;
-    Ok(unasked(&asked, answers))
+    match unasked(&asked, answers) {
+        Some(name) => Ok(Some(name)),
+        None => Ok(unspoken(lines, choices.harmless.as_slice())),
+    }
 }

@@ -6,7 +6,7 @@ use Rattle.vcm_lines.specs.declared.logical.Logical.{Logical}
 use Rattle.vcm_lines.specs.Lexemes.{Lexeme, lexemes}
 use Rattle.vcm_heads.specs.Heads.{found_or, major_of, behind_of, first_field, is_label}
 use Rattle.vcm_heads.specs.declared.rows.Row.{Row}
-use Rattle.vcm_heads.specs.declared.rows.Row.TheVariants.{Shape, Case, Datum, Value, Motion, Aim, Target, Touch, Scan, Text, Test, Loop, Choice, Call, Stated, Output, Feature, Measure, MeasureEnd, Qualification, Settings, Frame, Fit, Recall, Save, Delete, Mode, Units, Scanning, Table, Compensation, Sensor, Plane, From, Values, Features, Silent, Other}
+use Rattle.vcm_heads.specs.declared.rows.Row.TheVariants.{Shape, Case, Datum, Value, Motion, Aim, Target, Touch, Scan, Text, Test, Loop, Choice, Call, Stated, Output, Feature, Measure, MeasureEnd, Qualification, Settings, Frame, Fit, Recall, Save, Delete, Mode, Units, Scanning, Table, Compensation, Sensor, Plane, From, Values, Features, Switch, Carriage, Silent, Other}
 
 -- the words of statements, each with what becomes of them
 abbrev pub rows : List (List ℕ × Row)
@@ -117,6 +117,8 @@ rows =
     ∷ (codes "CLMPSN", Silent)
     ∷ (codes "MFGDEV", Silent)
     ∷ (codes "DMEID", Silent)
+    ∷ (codes "DMESW", Switch)
+    ∷ (codes "DMEHW", Silent)
     ∷ (codes "DMESWI", Silent)
     ∷ (codes "DMESWV", Silent)
     ∷ (codes "TOOLDF", Silent)
@@ -140,7 +142,12 @@ rows =
     ∷ (codes "CZONE", Silent)
     ∷ (codes "CZSLCT", Silent)
     ∷ (codes "CRGDEF", Silent)
+    ∷ (codes "CRMODE", Carriage)
+    ∷ (codes "CROSCL", Carriage)
     ∷ (codes "ROTDEF", Silent)
+    ∷ (codes "ROTSET", Silent)
+    ∷ (codes "XTERN", Silent)
+    ∷ (codes "ENDXTN", Silent)
     ∷ []
 
 -- what becomes of statements that go by a word; of any other word it isn't known what it does

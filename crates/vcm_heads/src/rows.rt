@@ -83,6 +83,10 @@ pub enum Row {
     Values,
     /// Features that change.
     Features,
+    /// DMESW: how the controller goes on.
+    Switch,
+    /// Carriages that move together, or one behind the other.
+    Carriage,
     /// What does nothing to motions.
     Silent,
     /// Another word: what it does isn't known.
@@ -197,6 +201,8 @@ const ROWS: &[(&[u8], Row)] = &[
     (b"CLMPSN", Row::Silent),
     (b"MFGDEV", Row::Silent),
     (b"DMEID", Row::Silent),
+    (b"DMESW", Row::Switch),
+    (b"DMEHW", Row::Silent),
     (b"DMESWI", Row::Silent),
     (b"DMESWV", Row::Silent),
     (b"TOOLDF", Row::Silent),
@@ -220,7 +226,12 @@ const ROWS: &[(&[u8], Row)] = &[
     (b"CZONE", Row::Silent),
     (b"CZSLCT", Row::Silent),
     (b"CRGDEF", Row::Silent),
+    (b"CRMODE", Row::Carriage),
+    (b"CROSCL", Row::Carriage),
     (b"ROTDEF", Row::Silent),
+    (b"ROTSET", Row::Silent),
+    (b"XTERN", Row::Silent),
+    (b"ENDXTN", Row::Silent),
 ];
 
 // What becomes of statements that go by a word.

@@ -1,6 +1,6 @@
 -- Each statement that a text is put as is on a line of the text.
 use Rattle.std.proofs.Common.{◌≡◌, ℕ, Bool, true, false, nat_eq, List, [], ◌∷◌, length, drop, Option, Some, None, refl, arith}
-use Rattle.std.specs.Prelude.{if◌then◌else◌, nat_lt, is_some}
+use Rattle.std.specs.Prelude.{if◌then◌else◌, nat_lt}
 use Rattle.std.specs.List.{list_all, list_any}
 use Rattle.std.specs.Str.{bytes_eq}
 use Rattle.std.proofs.lemmas.Bool.{and_parts, or_left, or_right}
@@ -22,12 +22,13 @@ use Rattle.vcm_kept.specs.declared.reached.OpenBlock.{OpenBlock}
 use Rattle.vcm_kept.specs.declared.text.Text.{Text}
 use Rattle.vcm_kept.specs.Effects.{effects_of}
 use Rattle.vcm_kept.specs.Exactly.{exact_form}
+use Rattle.vcm_kept.specs.Late.{Made, made_by}
 use Rattle.vcm_kept.specs.Places.{has_place, declares_kept, declares_slanted}
-use Rattle.vcm_kept.specs.Guarding.{Reached, begun_in, loops_by, block, opened, first_block, effects_in, set_in, with_effects, closed, line_of, repeats_end, chooses_end, around, guards, with_known, makes_frame, reaches_spot, reaches_feature, reaches_shift, reaches_form, reaches, guards_from, text_of, declares_carried, keeps_machine, opening, opens_polar, declares_first, opens_first, guarded}
+use Rattle.vcm_kept.specs.Guarding.{Reached, begun_in, loops_by, block, opened, first_block, effects_in, set_in, with_effects, closed, line_of, repeats_end, chooses_end, around, guards, with_known, makes_frame, reaches_spot, reaches_feature, reaches_shift, doubted, branched, is_aimed, reaches_form, reaches, guards_from, text_of, declares_carried, keeps_machine, opening, opens_polar, declares_first, opens_first, guarded}
 use Rattle.vcm_kept.specs.Choices.{next_depth, inner_depth, choice_end, depths, declares_choice, declares_choices}
 use Rattle.vcm_kept.specs.Datums.{declares_datums}
 use Rattle.vcm_kept.specs.Laws.{ends_block, is_line_for, EachIsOnItsLine, is_line_in, AllAreOnLinesOfTheText}
-use Rattle.vcm_kept.proofs.OnLines.{are_on, joined, each, cases_on, defaults_on, case_ends_on, moves_on, homes_on, declares_all_on, assigns_or_on, touches_on, measures_on, measured_on, configures_on, turns_in_on, recalls_at_on, queries_on, reports_at_on, closes_on, tests_on, chooses_on, repeats_on, loop_ends_on, ending_on, features_or_on, shifts_or_on}
+use Rattle.vcm_kept.proofs.OnLines.{are_on, joined, each, cases_on, defaults_on, case_ends_on, moves_on, homes_on, declares_all_on, assigns_or_on, touches_on, measures_on, measured_on, configures_on, turns_in_on, recalls_at_on, queries_on, reports_at_on, closes_on, tests_on, chooses_on, repeats_on, loop_ends_on, ending_on, features_or_on, shifts_or_on, lates_on}
 
 -- ---- one statement
 
@@ -43,8 +44,8 @@ module _ (test : ℕ → Bool) (line : ℕ) (h : test line ≡ true) where
       → are_on test (guards text r line e f) ≡ true
   guards_on text r e (form.Declaration k names) o = joined test _ _ (declares_all_on test line h r.variables e k names) (rw h)
   guards_on text r e (form.Assignment t value) o = assigns_or_on test line h text (around r) e r.variables t value (event_named t.name)
-  guards_on text r e (form.Move p) o = moves_on test line h text.steps e r.variables r.aiming (is_some r.measuring) p
-  guards_on text r e form.Home o = homes_on test line h text.from text.steps (is_some r.measuring) e
+  guards_on text r e (form.Move p) o = moves_on test line h text.steps e r.variables (is_aimed text r) r.within p
+  guards_on text r e form.Home o = homes_on test line h text.from text.steps (is_aimed text r) r.within e
   guards_on text r e (form.Test c) o = tests_on test line h e r.variables c
   guards_on text r e form.TestEnd o = chooses_end_on e form.TestEnd (first_block r.blocks) r.assigned (o refl)
   guards_on text r e (form.Repeat rounds) o = repeats_on test line h e r.variables rounds (loops_by r.variables rounds)
@@ -57,10 +58,10 @@ module _ (test : ℕ → Bool) (line : ℕ) (h : test line ≡ true) where
   guards_on text r e form.MeasureEnd o = measured_on test line h text.datums r.features r.measuring
   guards_on text r e (form.Configure which value) o = configures_on test line h text.slants e r.variables which value
   guards_on text r e (form.Shift l os) o = shifts_or_on test line h text r e l os (is_same_name slanted_name l)
-  guards_on text r e (form.Rotation l axis n) o = turns_in_on test line h text.polar text.datums e r.frames l axis n
+  guards_on text r e (form.Rotation l axis n) o = turns_in_on test line h text e r.frames l axis n
   guards_on text r e (form.Restore l) o = recalls_at_on test line h text.datums e l (index_of r.frames l)
   guards_on text r e (form.Query t side l word) o =
-      queries_on test line h e r.variables r.features t side l word (event_named t.name)
+      queries_on test line h text.datums e r.variables r.features r.frames t side l word (event_named t.name)
   guards_on text r e (form.Report side l) o = reports_at_on test line h e side l (index_of r.features l)
   guards_on text r e (form.Case n) o = cases_on test line h text.several e (inner_depth r.blocks) n
   guards_on text r e form.Default o = defaults_on test line h text.several e (inner_depth r.blocks)
@@ -117,6 +118,9 @@ module _ (test : ℕ → Bool) where
     reaches_shift_on r l os true o = o
     reaches_shift_on r l os false o = either_open (makes_frame r.variables os) (record r { frames = with_known r.frames l }) r o o
 
+    branched_on : (r : Reached) → open_on test r.blocks ≡ true → open_on test (branched r).blocks ≡ true
+    branched_on r o = either_open (nat_lt r.since (length r.blocks)) r (doubted r) o o
+
     reaches_form_on : (r : Reached) (e : ℕ) (f : Form) → open_on test r.blocks ≡ true → open_on test (reaches_form r line e f).blocks ≡ true
     reaches_form_on r e (form.Declaration k names) o = o
     reaches_form_on r e (form.Test c) o = opened_on None (next_depth r.blocks) r.assigned r.blocks o
@@ -125,6 +129,10 @@ module _ (test : ℕ → Bool) where
     reaches_form_on r e form.TestEnd o = closed_on r.blocks o
     reaches_form_on r e form.ChooseEnd o = closed_on r.blocks o
     reaches_form_on r e form.RepeatEnd o = closed_on r.blocks o
+    reaches_form_on r e form.Otherwise o = branched_on r o
+    reaches_form_on r e (form.Case n) o = branched_on r o
+    reaches_form_on r e form.CaseEnd o = branched_on r o
+    reaches_form_on r e form.Default o = branched_on r o
     reaches_form_on r e (form.Assignment t value) o = either_open (bytes_eq t.name (event_name Target)) (record r { aiming = false }) r o o
     reaches_form_on r e (form.Feature l p d) o = reaches_feature_on r l p (spot_named l) o
     reaches_form_on r e (form.Shift l os) o = reaches_shift_on r l os (is_same_name slanted_name l) o
@@ -136,16 +144,16 @@ module _ (test : ℕ → Bool) where
 -- ---- the whole text
 
 module _ (test : ℕ → Bool) where
-  guards_from_on : (text : Text) (r : Reached) (ps : List Placed) → open_on test r.blocks ≡ true → list_all (λ p. test p.statement.line) ps ≡ true
-      → are_on test (guards_from text r ps) ≡ true
-  guards_from_on text r [] o all = refl
-  guards_from_on text r (p ∷ ps) o all =
+  guards_from_on : (text : Text) (made : Made) (r : Reached) (ps : List Placed) → open_on test r.blocks ≡ true → list_all (λ p. test p.statement.line) ps ≡ true
+      → are_on test (guards_from text made r ps) ≡ true
+  guards_from_on text made r [] o all = refl
+  guards_from_on text made r (p ∷ ps) o all =
       let line = p.statement.line in
       let f = exact_form r.variables p.statement.form in
       let its = and_parts (test line) (list_all (λ q. test q.statement.line) ps) all in
       joined test _ _
-      (guards_on test line its.0 text r p.expansion f (λ ends. first_on test line its.0 r.blocks o))
-      (guards_from_on text (reaches r line p.expansion f) ps (reaches_on test line its.0 r p.expansion f o) its.1)
+      (joined test _ _ (lates_on test line its.0 made r f) (guards_on test line its.0 text r p.expansion f (λ ends. first_on test line its.0 r.blocks o)))
+      (guards_from_on text made (reaches r line p.expansion f) ps (reaches_on test line its.0 r p.expansion f o) its.1)
 
   module _ (h : test 1 ≡ true) where
     declares_carried_on : are_on test declares_carried ≡ true
@@ -202,7 +210,7 @@ module _ (test : ℕ → Bool) where
     guarded_on : (ps : List Placed) → list_all (λ p. test p.statement.line) ps ≡ true → are_on test (guarded ps) ≡ true
     guarded_on ps all =
         let text = text_of ps in
-        joined test _ _ (declares_first_on text) (joined test _ _ (opens_first_on text) (guards_from_on text (begun_in text.cut) ps refl all))
+        joined test _ _ (declares_first_on text) (joined test _ _ (opens_first_on text) (guards_from_on text (made_by ps) (begun_in text.cut) ps refl all))
 
 -- ---- the laws
 

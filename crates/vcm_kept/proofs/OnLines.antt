@@ -53,14 +53,21 @@ use Rattle.vcm_templates.specs.Expressions.{number, truth, both, has_form}
 use Rattle.vcm_templates.specs.Templates.{asks_variable, asks_piece, asks_variables, asks_formula, asks_near, asks_within, asks_value, asks_all, is_carried, declares_bound, sets_bound, goes, gone, untried_point, touched, lose_epoch, lose_places, lose_all, new_frame, saves_frame, frame_gone}
 use Rattle.vcm_kept.specs.declared.effects.Effects.{Effects}
 use Rattle.vcm_kept.specs.declared.text.Text.{Text}
-use Rattle.vcm_kept.specs.Effects.{where_may, lose_motions, lose_machine, lose_sensor, lose_settings, lose_frames, lose_kept, lose_planes, lose_index, lose_state, lose_saved, lose_effects, lose_block}
+use Rattle.vcm_kept.specs.Effects.{where_may, lose_motions, lose_modes, lose_tables, lose_scans, lose_units, lose_machine, lose_sensor, other_tip, lose_settings, lose_frames, lose_kept, lose_planes, lose_index, lose_state, lose_saved, lose_effects, lose_block}
 use Rattle.vcm_events.specs.Datums.{are_origins}
 use Rattle.vcm_kept.specs.declared.events.Around.{Around}
 use Rattle.vcm_kept.specs.Choices.{chosen_by, chooses_known, chooses_nothing, opens_case, is_chosen, cases, defaults, adds_value, begins_case, case_ends}
 use Rattle.vcm_kept.specs.Datums.{binds, unbinds, declares_bound_at, keeps_axes, recalls_axes, straightens, turns_axes, declares_axes, begins_origins, asks_origin, keeps_origin, originates}
+use Rattle.vcm_kept.specs.Named.{drops_frame, drops_feature, remakes_feature, stores_frame, declares_stored, keeps_stored}
+use Rattle.vcm_kept.specs.Late.{Made, is_late, is_late_variable, late_frame, late_feature, late_variable}
+use Rattle.vcm_spec.specs.Program.{is_same_name}
+use Rattle.vcm_events.specs.Events.{event_named}
+use Rattle.vcm_events.specs.Spots.{spot_named, slanted_name}
+use Rattle.vcm_forms.specs.declared.statement.Form.{Form}
+use Rattle.vcm_forms.specs.declared.statement.Form.TheVariants as form
 use Rattle.vcm_kept.specs.Exactly.{want_of}
 use Rattle.vcm_kept.specs.Places.{has_place, motion_asks, point_asks, approach_asks, aimed, within, asks_place, asks_point, keeps_here, keeps_known, keeps, tracks, loses_track, goes_to, moves_known, moves, goes_home, homes, reaches_target, step_asks, step_place, steps_known, steps_to, steps_by, before, left_behind, approaches_known, approaches_by, approaches, slants, keeps_setting}
-use Rattle.vcm_kept.specs.Guarding.{Reached, with_variable, declares_variable, declares_one, declares_all, assigned_where, assigned_to, assigned_by, assigned, is_nothing, turns_machine, turns_state, changes_sensor, selects, unselected, is_selected, selects_number, selects_by, wants_points, recalls_machine, turns_polar, happens, assigns_or, is_nominal, point, point_goes, own_point, direction_asks, touches_declared, touches_itself, touches_at, touches, measures, keeps_point, measured_index, counts_points, leaves_points, measured, nominal_where, direction_of, sets_direction, keeps_direction, features_at, declares_direction, declares_feature, feature_gone, features_in, features, carried_setting, setting_where, configures, declares_frame, made_where, found_in, has_shifts, asks_shifts, shifts_at, shifts_in, shifts, origins_at, origins_in, frames_by, queries, adds_number, begins_block, turns_at, turns_in, recalled_where, recalls_at, obtains_here, obtains_at, obtains_by, reports_at, closes, unknown_asks, tests, chooses, asks_increment, asks_rounds, repeats, loop_ends, ending, spots_by, features_or, direction_in, approaches_feature, slants_or, shifts_or}
+use Rattle.vcm_kept.specs.Guarding.{Reached, with_variable, declares_variable, declares_one, declares_all, assigned_where, assigned_to, assigned_by, assigned, is_nothing, turns_machine, turns_state, changes_sensor, selects, unselected, is_selected, selects_number, selects_by, wants_points, recalls_machine, turns_polar, happens, assigns_or, is_nominal, point, point_goes, own_point, direction_asks, touches_declared, touches_itself, touches_at, touches, measures, keeps_point, measured_index, counts_points, leaves_points, measured, nominal_where, direction_of, sets_direction, keeps_direction, features_at, declares_direction, declares_feature, feature_gone, features_in, features, carried_setting, setting_where, configures, declares_frame, made_where, found_in, has_shifts, asks_shifts, shifts_at, shifts_in, shifts, origins_at, origins_in, frames_by, queries, adds_number, begins_block, turns_at, turns_in, recalled_where, recalls_at, obtains_here, obtains_at, obtains_by, reports_at, closes, unknown_asks, tests, chooses, asks_increment, asks_rounds, repeats, loop_ends, ending, spots_by, features_or, direction_in, approaches_feature, slants_or, shifts_or, is_aimed, makes_frame, late_shift, late_place, late_touch, late_end, late_value, late_report, lates}
 
 -- ---- lists
 
@@ -164,13 +171,35 @@ module _ (test : ℕ → Bool) (line : ℕ) (h : test line ≡ true) where
   unfolding lose_motions
   lose_motions_on = rw h
 
-  lose_machine_on : are_on test (lose_machine line) ≡ true
+  lose_modes_on : are_on test (lose_modes line) ≡ true
+  unfolding lose_modes
+  lose_modes_on = rw h
+
+  lose_tables_on : are_on test (lose_tables line) ≡ true
+  unfolding lose_tables
+  lose_tables_on = rw h
+
+  lose_scans_on : are_on test (lose_scans line) ≡ true
+  unfolding lose_scans
+  lose_scans_on = rw h
+
+  lose_units_on : are_on test (lose_units line) ≡ true
+  unfolding lose_units
+  lose_units_on = rw h
+
+  lose_machine_on : (e : Effects) → are_on test (lose_machine line e) ≡ true
   unfolding lose_machine
-  lose_machine_on = rw h
+  lose_machine_on e =
+      joined test _ _ (where_may_on test e.modes _ lose_modes_on) (joined test _ _ (where_may_on test e.tables _ lose_tables_on)
+      (joined test _ _ (where_may_on test e.scans _ lose_scans_on) (where_may_on test e.units _ lose_units_on)))
 
   lose_sensor_on : are_on test (lose_sensor line) ≡ true
   unfolding lose_sensor
   lose_sensor_on = rw h
+
+  other_tip_on : are_on test (other_tip line) ≡ true
+  unfolding other_tip
+  other_tip_on = rw h
 
   lose_settings_on : are_on test (lose_settings line) ≡ true
   unfolding lose_settings
@@ -194,8 +223,8 @@ module _ (test : ℕ → Bool) (line : ℕ) (h : test line ≡ true) where
   lose_state_on : (e : Effects) → are_on test (lose_state line e) ≡ true
   unfolding lose_state
   lose_state_on e =
-      joined test _ _ (where_may_on test e.moves _ lose_motions_on) (joined test _ _ (where_may_on test e.machine _ lose_machine_on)
-      (joined test _ _ (where_may_on test e.selects _ lose_sensor_on) (where_may_on test e.settings _ lose_settings_on)))
+      joined test _ _ (where_may_on test e.moves _ lose_motions_on) (joined test _ _ (lose_machine_on e)
+      (joined test _ _ (where_may_on test e.selects _ lose_sensor_on) (joined test _ _ (where_may_on test e.tips _ other_tip_on) (where_may_on test e.settings _ lose_settings_on))))
 
   lose_saved_on : (e : Effects) → are_on test (lose_saved line e) ≡ true
   unfolding lose_saved
@@ -208,7 +237,7 @@ module _ (test : ℕ → Bool) (line : ℕ) (h : test line ≡ true) where
   lose_effects_on e is = joined test _ _ (lose_state_on e) (joined test _ _ (lose_saved_on e) (each test (lose_index line) lose_index_on is))
 
   lose_block_on : (e : Effects) (is : List ℕ) → are_on test (lose_block line e is) ≡ true
-  lose_block_on e is = either test e.leaves _ _ (rw h) (either test e.all _ _ (rw h lose_all_on) (lose_effects_on e is))
+  lose_block_on e is = either test e.leaves _ _ (rw h) (either test e.all _ _ (joined test _ _ lose_all_on (rw h)) (lose_effects_on e is))
 
   -- ---- frames
 
@@ -266,29 +295,29 @@ module _ (test : ℕ → Bool) (line : ℕ) (h : test line ≡ true) where
   pub moves_on : (steps : Bool) (e : ℕ) (vs : List Variable) (aiming measuring : Bool) (p : Coordinates) → are_on test (moves steps line e vs aiming measuring p) ≡ true
   moves_on steps e vs aiming measuring p = either test (has_place vs p) _ _ (moves_known_on steps e vs aiming measuring p) (rw h)
 
-  goes_home_on : (steps measuring : Bool) (e : ℕ) → are_on test (goes_home steps measuring line e) ≡ true
+  goes_home_on : (steps aiming measuring : Bool) (e : ℕ) → are_on test (goes_home steps aiming measuring line e) ≡ true
   unfolding goes_home
-  goes_home_on steps measuring e = rw h (joined test _ _ goes_on (rw h (joined test _ _ (loses_track_on steps) gone_on)))
+  goes_home_on steps aiming measuring e = rw h (joined test _ _ goes_on (rw h (joined test _ _ (loses_track_on steps) gone_on)))
 
-  pub homes_on : (from steps measuring : Bool) (e : ℕ) → are_on test (homes from steps measuring line e) ≡ true
-  homes_on false steps measuring e = goes_home_on steps measuring e
-  homes_on true steps measuring e =
-      rw h (joined test _ _ (goes_home_on steps measuring e) (rw h (joined test _ _ (goes_to_on steps kept.Home (within measuring motion_asks)) (rw h))))
+  pub homes_on : (from steps aiming measuring : Bool) (e : ℕ) → are_on test (homes from steps aiming measuring line e) ≡ true
+  homes_on false steps aiming measuring e = goes_home_on steps aiming measuring e
+  homes_on true steps aiming measuring e =
+      rw h (joined test _ _ (goes_home_on steps aiming measuring e) (rw h (joined test _ _ (goes_to_on steps kept.Home (within measuring (aimed aiming motion_asks))) (rw h))))
 
   reaches_target_on : (targets steps measuring : Bool) → are_on test (reaches_target targets steps measuring line) ≡ true
   reaches_target_on true steps measuring = goes_to_on steps kept.Target (within measuring (aimed true motion_asks))
   reaches_target_on false steps measuring = rw h
 
-  steps_known_on : (measuring : Bool) (vs : List Variable) (p q : Coordinates) → are_on test (steps_known measuring line vs p q) ≡ true
+  steps_known_on : (aiming measuring : Bool) (vs : List Variable) (p q : Coordinates) → are_on test (steps_known aiming measuring line vs p q) ≡ true
   unfolding steps_known
-  steps_known_on measuring vs p q = joined test _ _ (asks_point_on vs (within measuring step_asks) p) (rw h (joined test _ _ (keeps_here_on kept.Probe q) gone_on))
+  steps_known_on aiming measuring vs p q = joined test _ _ (asks_point_on vs (within measuring (aimed aiming step_asks)) p) (rw h (joined test _ _ (keeps_here_on kept.Probe q) gone_on))
 
-  steps_to_on : (measuring : Bool) (vs : List Variable) (p : Coordinates) (q : Option Coordinates) → are_on test (steps_to measuring line vs p q) ≡ true
-  steps_to_on measuring vs p None = rw h
-  steps_to_on measuring vs p (Some q) = steps_known_on measuring vs p q
+  steps_to_on : (aiming measuring : Bool) (vs : List Variable) (p : Coordinates) (q : Option Coordinates) → are_on test (steps_to aiming measuring line vs p q) ≡ true
+  steps_to_on aiming measuring vs p None = rw h
+  steps_to_on aiming measuring vs p (Some q) = steps_known_on aiming measuring vs p q
 
-  steps_by_on : (measuring : Bool) (vs : List Variable) (op : BinaryOp) (p : Coordinates) → are_on test (steps_by measuring line vs op p) ≡ true
-  steps_by_on measuring vs op p = either test (has_place vs p) _ _ (steps_to_on measuring vs p (step_place op p)) (rw h)
+  steps_by_on : (aiming measuring : Bool) (vs : List Variable) (op : BinaryOp) (p : Coordinates) → are_on test (steps_by aiming measuring line vs op p) ≡ true
+  steps_by_on aiming measuring vs op p = either test (has_place vs p) _ _ (steps_to_on aiming measuring vs p (step_place op p)) (rw h)
 
   -- ---- points that are approached and left
 
@@ -487,7 +516,7 @@ module _ (test : ℕ → Bool) (line : ℕ) (h : test line ≡ true) where
   happens_on : (text : Text) (around : Around) (e : ℕ) (vs : List Variable) (event : Event) (v : Source) → are_on test (happens text around line e vs event v) ≡ true
   happens_on text around e vs events.Mode v = turns_machine_on carried.Mode causes.Mode (is_nothing (leaf_in v))
   happens_on text around e vs events.Table v = turns_machine_on carried.Table causes.Table (is_nothing (leaf_in v))
-  happens_on text around e vs events.Scanning v = turns_machine_on carried.Scanning causes.Scanning (is_nothing (leaf_in v))
+  happens_on text around e vs events.Scanning v = turns_state_on carried.Scanning causes.Scanning (is_nothing (leaf_in v))
   happens_on text around e vs events.Unit v = turns_state_on carried.Unit causes.Unit (is_nothing (leaf_in v))
   happens_on text around e vs events.OwnPoints v = turns_state_on carried.OwnPoints causes.Mode (is_nothing (leaf_in v))
   happens_on text around e vs events.Approach v = turns_state_on carried.Approach causes.Setting (is_nothing (leaf_in v))
@@ -507,9 +536,11 @@ module _ (test : ℕ → Bool) (line : ℕ) (h : test line ≡ true) where
   happens_on text around e vs events.Bind v = refl
   happens_on text around e vs events.Origins v = begins_origins_on text.datums
   happens_on text around e vs events.Origin v = refl
+  happens_on text around e vs events.Width v = other_tip_on
+  happens_on text around e vs events.Depth v = refl
   happens_on text around e vs events.CaseValue v = adds_number_on around.depth (leaf_in v)
   happens_on text around e vs events.CaseBegins v = begins_block_on text.several around.depth
-  happens_on text around e vs events.All v = rw h lose_all_on
+  happens_on text around e vs events.All v = joined test _ _ lose_all_on (rw h)
   happens_on text around e vs _ v = rw h
 
   pub assigns_or_on : (text : Text) (around : Around) (e : ℕ) (vs : List Variable) (t : Target) (value : Source) (event : Option Event)
@@ -628,51 +659,60 @@ module _ (test : ℕ → Bool) (line : ℕ) (h : test line ≡ true) where
 
   -- ---- frames of the text
 
-  declares_frame_on : (datums : Bool) (i : ℕ) (was : Option ℕ) → are_on test (declares_frame datums line i was) ≡ true
-  declares_frame_on datums i None = rw h (declares_axes_on datums i)
-  declares_frame_on datums i (Some j) = refl
+  declares_stored_on : (saving : Bool) (i : ℕ) → are_on test (declares_stored saving line i) ≡ true
+  declares_stored_on true i = rw h
+  declares_stored_on false i = refl
 
-  made_where_on : (datums : Bool) (i : ℕ) → are_on test (made_where datums line i) ≡ true
+  keeps_stored_on : (saving : Bool) (i : ℕ) → are_on test (keeps_stored saving line i) ≡ true
+  keeps_stored_on true i = rw h
+  keeps_stored_on false i = refl
+
+  declares_frame_on : (text : Text) (i : ℕ) (was : Option ℕ) → are_on test (declares_frame text line i was) ≡ true
+  declares_frame_on text i None = rw h (joined test _ _ (declares_stored_on text.saving i) (declares_axes_on text.datums i))
+  declares_frame_on text i (Some j) = refl
+
+  made_where_on : (text : Text) (i : ℕ) → are_on test (made_where text line i) ≡ true
   unfolding made_where
-  made_where_on datums i =
-      joined test _ _ (saves_frame_on i) (joined test _ _ (keeps_axes_on datums i) (rw h (joined test _ _ (frame_gone_on (Some i)) (rw h))))
+  made_where_on text i =
+      joined test _ _ (saves_frame_on i) (joined test _ _ (keeps_stored_on text.saving i) (joined test _ _ (keeps_axes_on text.datums i)
+      (rw h (joined test _ _ (frame_gone_on (Some i)) (rw h)))))
 
   asks_shifts_on : (vs : List Variable) (o : Offset) → are_on test (asks_shifts line vs o) ≡ true
   asks_shifts_on vs o = asks_all_on vs o.length
 
-  shifts_at_on : (datums : Bool) (e : ℕ) (vs : List Variable) (l : List ℕ) (os : List Offset) (was i : Option ℕ) → are_on test (shifts_at datums line e vs l os was i) ≡ true
-  shifts_at_on datums e vs l os was None = rw h
-  shifts_at_on datums e vs l os was (Some i) =
-      joined test _ _ (declares_frame_on datums i was)
-      (rw h (joined test _ _ (each test (asks_shifts line vs) (asks_shifts_on vs) os) (rw h (made_where_on datums i))))
+  shifts_at_on : (text : Text) (e : ℕ) (vs : List Variable) (l : List ℕ) (os : List Offset) (was i : Option ℕ) → are_on test (shifts_at text line e vs l os was i) ≡ true
+  shifts_at_on text e vs l os was None = rw h
+  shifts_at_on text e vs l os was (Some i) =
+      joined test _ _ (declares_frame_on text i was)
+      (rw h (joined test _ _ (each test (asks_shifts line vs) (asks_shifts_on vs) os) (rw h (made_where_on text i))))
 
-  shifts_in_on : (datums : Bool) (e : ℕ) (vs : List Variable) (ds : List (List ℕ)) (l : List ℕ) (os : List Offset) → are_on test (shifts_in datums line e vs ds l os) ≡ true
-  shifts_in_on datums e vs ds l os = shifts_at_on datums e vs l os (index_of ds l) (found_in (entered ds l))
+  shifts_in_on : (text : Text) (e : ℕ) (vs : List Variable) (ds : List (List ℕ)) (l : List ℕ) (os : List Offset) → are_on test (shifts_in text line e vs ds l os) ≡ true
+  shifts_in_on text e vs ds l os = shifts_at_on text e vs l os (index_of ds l) (found_in (entered ds l))
 
-  shifts_on : (datums : Bool) (e : ℕ) (vs : List Variable) (ds : List (List ℕ)) (l : List ℕ) (os : List Offset) → are_on test (shifts datums line e vs ds l os) ≡ true
-  shifts_on datums e vs ds l os = either test (has_shifts vs os) _ _ (shifts_in_on datums e vs ds l os) (frame_gone_on (index_of ds l))
+  shifts_on : (text : Text) (e : ℕ) (vs : List Variable) (ds : List (List ℕ)) (l : List ℕ) (os : List Offset) → are_on test (shifts text line e vs ds l os) ≡ true
+  shifts_on text e vs ds l os = either test (has_shifts vs os) _ _ (shifts_in_on text e vs ds l os) (frame_gone_on (index_of ds l))
 
-  origins_at_on : (e : ℕ) (l : List ℕ) (os : List Offset) (was i : Option ℕ) → are_on test (origins_at line e l os was i) ≡ true
-  origins_at_on e l os was None = rw h
-  origins_at_on e l os was (Some i) = joined test _ _ (declares_frame_on true i was) (rw h (made_where_on true i))
+  origins_at_on : (text : Text) (e : ℕ) (l : List ℕ) (os : List Offset) (was i : Option ℕ) → are_on test (origins_at text line e l os was i) ≡ true
+  origins_at_on text e l os was None = rw h
+  origins_at_on text e l os was (Some i) = joined test _ _ (declares_frame_on text i was) (rw h (made_where_on text i))
 
-  origins_in_on : (e : ℕ) (ds : List (List ℕ)) (l : List ℕ) (os : List Offset) → are_on test (origins_in line e ds l os) ≡ true
-  origins_in_on e ds l os = origins_at_on e l os (index_of ds l) (found_in (entered ds l))
+  origins_in_on : (text : Text) (e : ℕ) (ds : List (List ℕ)) (l : List ℕ) (os : List Offset) → are_on test (origins_in text line e ds l os) ≡ true
+  origins_in_on text e ds l os = origins_at_on text e l os (index_of ds l) (found_in (entered ds l))
 
-  frames_by_on : (datums : Bool) (e : ℕ) (vs : List Variable) (ds : List (List ℕ)) (l : List ℕ) (os : List Offset) (origins : Bool)
-      → are_on test (frames_by datums line e vs ds l os origins) ≡ true
-  frames_by_on datums e vs ds l os true = origins_in_on e ds l os
-  frames_by_on datums e vs ds l os false = shifts_on datums e vs ds l os
+  frames_by_on : (text : Text) (e : ℕ) (vs : List Variable) (ds : List (List ℕ)) (l : List ℕ) (os : List Offset) (origins : Bool)
+      → are_on test (frames_by text line e vs ds l os origins) ≡ true
+  frames_by_on text e vs ds l os true = origins_in_on text e ds l os
+  frames_by_on text e vs ds l os false = shifts_on text e vs ds l os
 
-  turns_at_on : (angles datums : Bool) (e : ℕ) (l : List ℕ) (axis : FrameAxis) (n : Quarters) (was i : Option ℕ)
-      → are_on test (turns_at angles datums line e l axis n was i) ≡ true
-  turns_at_on angles datums e l axis n was None = rw h
-  turns_at_on angles datums e l axis n was (Some i) =
-      joined test _ _ (declares_frame_on datums i was) (rw h (joined test _ _ (turns_axes_on datums) (made_where_on datums i)))
+  turns_at_on : (text : Text) (e : ℕ) (l : List ℕ) (axis : FrameAxis) (n : Quarters) (was i : Option ℕ)
+      → are_on test (turns_at text line e l axis n was i) ≡ true
+  turns_at_on text e l axis n was None = rw h
+  turns_at_on text e l axis n was (Some i) =
+      joined test _ _ (declares_frame_on text i was) (rw h (joined test _ _ (turns_axes_on text.datums) (made_where_on text i)))
 
-  pub turns_in_on : (angles datums : Bool) (e : ℕ) (ds : List (List ℕ)) (l : List ℕ) (axis : FrameAxis) (n : Quarters)
-      → are_on test (turns_in angles datums line e ds l axis n) ≡ true
-  turns_in_on angles datums e ds l axis n = turns_at_on angles datums e l axis n (index_of ds l) (found_in (entered ds l))
+  pub turns_in_on : (text : Text) (e : ℕ) (ds : List (List ℕ)) (l : List ℕ) (axis : FrameAxis) (n : Quarters)
+      → are_on test (turns_in text line e ds l axis n) ≡ true
+  turns_in_on text e ds l axis n = turns_at_on text e l axis n (index_of ds l) (found_in (entered ds l))
 
   recalled_where_on : (datums : Bool) (i : ℕ) → are_on test (recalled_where datums line i) ≡ true
   unfolding recalled_where
@@ -700,11 +740,31 @@ module _ (test : ℕ → Bool) (line : ℕ) (h : test line ≡ true) where
   obtains_by_on e vs fs t side l word None = refl
   obtains_by_on e vs fs t side l word (Some i) = obtains_at_on e vs t side l word i (slice_get (kinds_of vs) i) (index_of fs l)
 
-  pub queries_on : (e : ℕ) (vs : List Variable) (fs : List (List ℕ)) (t : Target) (side : Side) (l : List ℕ) (word : FeatureWord) (event : Option Event)
-      → are_on test (queries line e vs fs t side l word event) ≡ true
-  queries_on e vs fs t side l word (Some events.Bind) = binds_on (index_of fs l)
-  queries_on e vs fs t side l word (Some events.Origin) = originates_on e l word (index_of fs l)
-  queries_on e vs fs t side l word _ = obtains_by_on e vs fs t side l word (variable_of vs t.expansion t.name)
+  drops_frame_on : (i : Option ℕ) → are_on test (drops_frame line i) ≡ true
+  drops_frame_on None = rw h
+  drops_frame_on (Some i) = rw h
+
+  drops_feature_on : (datums : Bool) (i : Option ℕ) → are_on test (drops_feature datums line i) ≡ true
+  drops_feature_on datums None = rw h
+  drops_feature_on datums (Some i) = rw h (unbinds_on datums i)
+
+  remakes_feature_on : (datums : Bool) (i : Option ℕ) → are_on test (remakes_feature datums line i) ≡ true
+  remakes_feature_on datums None = rw h
+  remakes_feature_on datums (Some i) = rw h (unbinds_on datums i)
+
+  stores_frame_on : (i : Option ℕ) → are_on test (stores_frame line i) ≡ true
+  stores_frame_on None = rw h
+  stores_frame_on (Some i) = rw h
+
+  pub queries_on : (datums : Bool) (e : ℕ) (vs : List Variable) (fs ds : List (List ℕ)) (t : Target) (side : Side) (l : List ℕ) (word : FeatureWord) (event : Option Event)
+      → are_on test (queries datums line e vs fs ds t side l word event) ≡ true
+  queries_on datums e vs fs ds t side l word (Some events.Bind) = binds_on (index_of fs l)
+  queries_on datums e vs fs ds t side l word (Some events.Origin) = originates_on e l word (index_of fs l)
+  queries_on datums e vs fs ds t side l word (Some events.DropFeature) = drops_feature_on datums (index_of fs l)
+  queries_on datums e vs fs ds t side l word (Some events.Remake) = remakes_feature_on datums (index_of fs l)
+  queries_on datums e vs fs ds t side l word (Some events.DropFrame) = drops_frame_on (index_of ds l)
+  queries_on datums e vs fs ds t side l word (Some events.StoreFrame) = stores_frame_on (index_of ds l)
+  queries_on datums e vs fs ds t side l word _ = obtains_by_on e vs fs t side l word (variable_of vs t.expansion t.name)
 
   pub reports_at_on : (e : ℕ) (side : Side) (l : List ℕ) (i : Option ℕ) → are_on test (reports_at line e side l i) ≡ true
   reports_at_on e side l None = refl
@@ -751,16 +811,16 @@ module _ (test : ℕ → Bool) (line : ℕ) (h : test line ≡ true) where
 
   -- ---- places and points by their names
 
-  spots_by_on : (measuring : Bool) (vs : List Variable) (p : Coordinates) (s : Spot) → are_on test (spots_by measuring line vs p s) ≡ true
-  spots_by_on measuring vs p spots.Home = joined test _ _ (keeps_on vs kept.Home p) (rw h)
-  spots_by_on measuring vs p spots.Target = keeps_on vs kept.Target p
-  spots_by_on measuring vs p spots.Step = steps_by_on measuring vs Add p
-  spots_by_on measuring vs p spots.Back = steps_by_on measuring vs Sub p
+  spots_by_on : (aiming measuring : Bool) (vs : List Variable) (p : Coordinates) (s : Spot) → are_on test (spots_by aiming measuring line vs p s) ≡ true
+  spots_by_on aiming measuring vs p spots.Home = joined test _ _ (keeps_on vs kept.Home p) (rw h)
+  spots_by_on aiming measuring vs p spots.Target = keeps_on vs kept.Target p
+  spots_by_on aiming measuring vs p spots.Step = steps_by_on aiming measuring vs Add p
+  spots_by_on aiming measuring vs p spots.Back = steps_by_on aiming measuring vs Sub p
 
   pub features_or_on : (text : Text) (r : Reached) (e : ℕ) (l : List ℕ) (p : Coordinates) (d : Axis) (s : Option Spot)
       → are_on test (features_or text r line e l p d s) ≡ true
   features_or_on text r e l p d None = features_on text.pointed text.datums e r.variables r.features l p d
-  features_or_on text r e l p d (Some s) = spots_by_on (is_some r.measuring) r.variables p s
+  features_or_on text r e l p d (Some s) = spots_by_on (is_aimed text r) r.within r.variables p s
 
   approaches_feature_on : (steps : Bool) (vs : List Variable) (p : Coordinates) (i : Option ℕ) → are_on test (approaches_feature steps line vs p i) ≡ true
   approaches_feature_on steps vs p None = untried_point_on
@@ -772,4 +832,48 @@ module _ (test : ℕ → Bool) (line : ℕ) (h : test line ≡ true) where
 
   pub shifts_or_on : (text : Text) (r : Reached) (e : ℕ) (l : List ℕ) (os : List Offset) (slanted : Bool) → are_on test (shifts_or text r line e l os slanted) ≡ true
   shifts_or_on text r e l os true = slants_or_on text r.variables (measured_index r.features r.measuring) os
-  shifts_or_on text r e l os false = frames_by_on text.datums e r.variables r.frames l os (are_origins os)
+  shifts_or_on text r e l os false = frames_by_on text e r.variables r.frames l os (are_origins os)
+
+  -- ---- what is made below in writing
+
+  late_frame_on : (late : Bool) → are_on test (late_frame line late) ≡ true
+  late_frame_on true = rw h
+  late_frame_on false = refl
+
+  late_feature_on : (late : Bool) → are_on test (late_feature line late) ≡ true
+  late_feature_on true = rw h
+  late_feature_on false = refl
+
+  late_variable_on : (late : Bool) → are_on test (late_variable line late) ≡ true
+  late_variable_on true = rw h
+  late_variable_on false = refl
+
+  late_report_on : (late : Bool) → are_on test (late_report line late) ≡ true
+  late_report_on true = rw h
+  late_report_on false = refl
+
+  late_place_on : (made : Made) (r : Reached) (l : List ℕ) (p : Coordinates) (s : Option Spot) → are_on test (late_place made r line l p s) ≡ true
+  late_place_on made r l p None = late_feature_on _
+  late_place_on made r l p (Some s) = refl
+
+  late_touch_on : (made : Made) (r : Reached) (l : Option (List ℕ)) → are_on test (late_touch made r line l) ≡ true
+  late_touch_on made r None = refl
+  late_touch_on made r (Some l) = late_feature_on (is_late r.features made.features l)
+
+  late_end_on : (made : Made) (r : Reached) (l : Option (List ℕ)) → are_on test (late_end made r line l) ≡ true
+  late_end_on made r None = late_feature_on true
+  late_end_on made r (Some l) = late_feature_on (is_late r.features made.features l)
+
+  late_value_on : (made : Made) (r : Reached) (t : Target) (event : Option Event) → are_on test (late_value made r line t event) ≡ true
+  late_value_on made r t None = late_variable_on (is_late_variable r.variables made.variables t)
+  late_value_on made r t (Some e) = refl
+
+  pub lates_on : (made : Made) (r : Reached) (f : Form) → are_on test (lates made r line f) ≡ true
+  lates_on made r (form.Shift l os) = late_frame_on _
+  lates_on made r (form.Feature l p d) = late_place_on made r l p (spot_named l)
+  lates_on made r (form.Touch p d) = late_touch_on made r r.measuring
+  lates_on made r form.MeasureEnd = late_end_on made r r.measuring
+  lates_on made r (form.Assignment t value) = late_value_on made r t (event_named t.name)
+  lates_on made r (form.Query t side l word) = late_value_on made r t (event_named t.name)
+  lates_on made r (form.Report side l) = late_report_on (is_late r.features made.features l)
+  lates_on made r _ = refl

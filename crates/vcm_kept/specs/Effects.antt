@@ -20,9 +20,10 @@ use Rattle.vcm_templates.specs.declared.carried.Carried.TheVariants as carried
 use Rattle.vcm_templates.specs.declared.carried.Item.TheVariants as items
 use Rattle.vcm_templates.specs.declared.carried.TheConstants.{FEATURES_STEP, UNKNOWN_SENSOR}
 use Rattle.vcm_templates.specs.declared.lengths.Kept.TheVariants as kept
-use Rattle.vcm_templates.specs.Carried.{carried_term}
-use Rattle.vcm_templates.specs.Expressions.{number}
-use Rattle.vcm_templates.specs.Templates.{set, set_item, lose, raise, untried, lose_all, to_the_end, lose_frame}
+use Rattle.vcm_remarks.specs.declared.remark.Remark.TheVariants.{AnotherTip}
+use Rattle.vcm_templates.specs.Carried.{carried_term, carried_target}
+use Rattle.vcm_templates.specs.Expressions.{number, truth}
+use Rattle.vcm_templates.specs.Templates.{remarks, set, set_item, lose, raise, untried, lose_all, to_the_end, lose_frame}
 use Rattle.vcm_kept.specs.declared.effects.Effects.{Effects}
 use Rattle.vcm_kept.specs.Places.{forgets}
 
@@ -30,14 +31,18 @@ use Rattle.vcm_kept.specs.Places.{forgets}
 
 -- nothing
 abbrev pub no_effects : Effects
-no_effects = record { moves = false; machine = false; selects = false; settings = false; frames = false; features = false; values = false; spots = false; planes = false; leaves = false; all = false }
+no_effects = record { moves = false; modes = false; tables = false; scans = false; units = false; selects = false; tips = false; settings = false; frames = false; features = false; values = false; spots = false; planes = false; leaves = false; all = false }
 
 -- what one or the other may do
 abbrev pub either_effects : Effects → Effects → Effects
 either_effects a b = record {
   moves = a.moves || b.moves;
-  machine = a.machine || b.machine;
+  modes = a.modes || b.modes;
+  tables = a.tables || b.tables;
+  scans = a.scans || b.scans;
+  units = a.units || b.units;
   selects = a.selects || b.selects;
+  tips = a.tips || b.tips;
   settings = a.settings || b.settings;
   frames = a.frames || b.frames;
   features = a.features || b.features;
@@ -48,16 +53,31 @@ either_effects a b = record {
   all = a.all || b.all;
 }
 
--- it may move the probe; turn, scan or change the mode; bring the probe elsewhere, as another sensor does; set distances; make frames; measure or declare features; set any variable; keep a place; go on elsewhere;
+-- it may move the probe; change the mode; turn a table; scan; set another unit; bring the probe elsewhere, as another sensor does; put on another tip; set distances; make frames; measure or declare features; set any variable; keep a place; go on elsewhere;
 -- do anything
 abbrev pub may_move : Effects
 may_move = record no_effects { moves = true }
 
+abbrev pub may_switch : Effects
+may_switch = record no_effects { modes = true; selects = true }
+
 abbrev pub may_turn : Effects
-may_turn = record no_effects { machine = true; selects = true }
+may_turn = record no_effects { tables = true; selects = true }
+
+abbrev pub may_scan : Effects
+may_scan = record no_effects { scans = true }
+
+abbrev pub may_convert : Effects
+may_convert = record no_effects { units = true }
 
 abbrev pub may_select : Effects
 may_select = record no_effects { selects = true }
+
+abbrev pub may_widen : Effects
+may_widen = record no_effects { tips = true }
+
+abbrev pub may_put_on : Effects
+may_put_on = record no_effects { selects = true; tips = true }
 
 abbrev pub may_set : Effects
 may_set = record no_effects { settings = true }
@@ -80,13 +100,14 @@ may_plane = record no_effects { planes = true }
 
 -- what an event may do
 abbrev pub event_effects : Event → Effects
-event_effects events.Mode = may_turn
+event_effects events.Mode = may_switch
 event_effects events.Table = may_turn
-event_effects events.Scanning = may_turn
-event_effects events.Unit = may_turn
-event_effects events.OwnPoints = may_turn
+event_effects events.Scanning = may_scan
+event_effects events.Unit = may_convert
+event_effects events.OwnPoints = may_switch
 event_effects events.Place = may_select
-event_effects events.Sensor = may_select
+event_effects events.Sensor = may_put_on
+event_effects events.Width = may_widen
 event_effects events.Approach = may_set
 event_effects events.Search = may_set
 event_effects events.Retract = may_set
@@ -111,6 +132,12 @@ event_effects events.PolarPoint = may_measure
 event_effects events.Bind = no_effects
 event_effects events.Origins = no_effects
 event_effects events.Origin = no_effects
+event_effects events.DropFrame = may_frame
+event_effects events.StoreFrame = may_frame
+event_effects events.DropFeature = may_declare
+event_effects events.Remake = may_declare
+event_effects events.Depth = no_effects
+event_effects events.Unreported = no_effects
 event_effects events.CaseValue = no_effects
 event_effects events.CaseBegins = no_effects
 event_effects events.Ends = record no_effects { leaves = true }
@@ -141,6 +168,7 @@ effects_of (form.Configure which value) = may_set
 effects_of (form.Shift l os) = if is_same_name slanted_name l then may_measure else may_frame
 effects_of (form.Rotation l axis n) = may_frame
 effects_of (form.Restore l) = may_frame
+effects_of (form.Query t side l word) = assignment_effects (event_named t.name)
 effects_of (form.Leap name) = record no_effects { leaves = true }
 effects_of f = no_effects
 
@@ -172,15 +200,33 @@ where_may false gs = []
 unfoldable pub lose_motions : ℕ → List Guarded
 lose_motions line = untried line ∷ set line carried.Single (Plain (number (pos 0))) ∷ []
 
--- the state of the machine isn't known
-unfoldable pub lose_machine : ℕ → List Guarded
-lose_machine line =
-    lose line carried.Mode causes.Mode ∷ lose line carried.Table causes.Table ∷ lose line carried.Scanning causes.Scanning ∷ lose line carried.Unit causes.Unit
-    ∷ lose line carried.OwnPoints causes.Mode ∷ []
+-- the mode isn't known
+unfoldable pub lose_modes : ℕ → List Guarded
+lose_modes line = lose line carried.Mode causes.Mode ∷ lose line carried.OwnPoints causes.Mode ∷ []
+
+-- nor whether the machine scans, nor which unit is in force
+unfoldable pub lose_scans : ℕ → List Guarded
+lose_scans line = lose line carried.Scanning causes.Scanning ∷ []
+
+unfoldable pub lose_units : ℕ → List Guarded
+lose_units line = lose line carried.Unit causes.Unit ∷ []
+
+-- a table may be turned
+unfoldable pub lose_tables : ℕ → List Guarded
+lose_tables line = lose line carried.Table causes.Table ∷ []
+
+-- the state of the machine that may be another one isn't known
+unfoldable pub lose_machine : ℕ → Effects → List Guarded
+lose_machine line e =
+    where_may e.modes (lose_modes line) ++ (where_may e.tables (lose_tables line) ++ (where_may e.scans (lose_scans line) ++ where_may e.units (lose_units line)))
 
 -- where the probe stands isn't, nor which sensor is selected
 unfoldable pub lose_sensor : ℕ → List Guarded
 lose_sensor line = set line carried.Place (Plain (number (pos 0))) ∷ set line carried.Sensor (Plain (number UNKNOWN_SENSOR)) ∷ []
+
+-- another tip may be on
+unfoldable pub other_tip : ℕ → List Guarded
+other_tip line = remarks line 0 (form.Assignment (carried_target carried.Asked) (truth false)) AnotherTip ∷ []
 
 -- the distances aren't
 unfoldable pub lose_settings : ℕ → List Guarded
@@ -208,7 +254,8 @@ lose_index line i = set_item line items.Known i (Plain (number (pos 0))) ∷ []
 -- what statements may have done to the machine that may have been carried out or not
 unfoldable pub lose_state : ℕ → Effects → List Guarded
 lose_state line e =
-    where_may e.moves (lose_motions line) ++ (where_may e.machine (lose_machine line) ++ (where_may e.selects (lose_sensor line) ++ where_may e.settings (lose_settings line)))
+    where_may e.moves (lose_motions line) ++ (lose_machine line e ++ (where_may e.selects (lose_sensor line)
+    ++ (where_may e.tips (other_tip line) ++ where_may e.settings (lose_settings line))))
 
 -- and to what is saved: frames, features, values and places, and the plane
 unfoldable pub lose_saved : ℕ → Effects → List Guarded
@@ -224,5 +271,5 @@ lose_effects line e is = lose_state line e ++ (lose_saved line e ++ flat_map (lo
 abbrev pub lose_block : ℕ → Effects → List ℕ → List Guarded
 lose_block line e is =
     if e.leaves then to_the_end line ∷ []
-    else if e.all then untried line ∷ lose_all line
+    else if e.all then lose_all line ++ untried line ∷ []
     else lose_effects line e is

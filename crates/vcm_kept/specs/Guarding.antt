@@ -53,8 +53,10 @@ use Rattle.vcm_kept.specs.declared.effects.Effects.{Effects}
 use Rattle.vcm_kept.specs.Exactly.{want_of, exact_form, is_cut_placed}
 use Rattle.vcm_kept.specs.Choices.{next_depth, inner_depth, chooses_known, chooses_nothing, choice_end, cases, defaults, adds_value, begins_case, case_ends, declares_choices}
 use Rattle.vcm_kept.specs.Datums.{binds, unbinds, declares_bound_at, keeps_axes, recalls_axes, straightens, turns_axes, declares_axes, begins_origins, originates, shift_of, frame_asks, declares_datums}
+use Rattle.vcm_kept.specs.Late.{Made, made_by, is_late, is_late_variable, late_frame, late_feature, late_variable}
+use Rattle.vcm_kept.specs.Named.{drops_frames, drops_frame, drops_feature, remakes_feature, stores_frame, declares_stored, keeps_stored}
 use Rattle.vcm_events.specs.Datums.{are_origins}
-use Rattle.vcm_kept.specs.Effects.{no_effects, either_effects, effects_of, set_by, lose_block}
+use Rattle.vcm_kept.specs.Effects.{no_effects, either_effects, effects_of, set_by, other_tip, lose_block}
 use Rattle.vcm_remarks.specs.declared.remark.Remark.TheVariants.{NotReported, AnotherTip}
 use Rattle.vcm_kept.specs.Places.{has_place, asks_place, motion_asks, length_asks, point_asks, approach_asks, asks_point, moves, homes, keeps, loses_track, reaches_target, steps_by, approaches, slants, keeps_setting, declares_kept, declares_slanted}
 use Rattle.vcm_kept.specs.declared.reached.OpenBlock.{OpenBlock}
@@ -70,12 +72,14 @@ use Rattle.vcm_templates.specs.declared.templates.TheConstants.{FAR}
 
 -- ---- what stands above
 
--- what statements leave behind them in writing: the variables, frames and features that are declared, the feature that is measured, whether a GOTARG is open,
--- the variables that are set, in order, and the blocks that are open, the innermost first
+-- what statements leave behind them in writing: the variables, frames and features that are declared, whether a MEAS is open, behind how many open blocks, and of which
+-- feature, if that is sure, whether a GOTARG is open, the variables that are set, in order, and the blocks that are open, the innermost first
 pub record Reached : Type 0 where
   pub variables : List Variable
   pub frames : List (List ℕ)
   pub features : List (List ℕ)
+  pub within : Bool
+  pub since : ℕ
   pub measuring : Option (List ℕ)
   pub aiming : Bool
   pub assigned : List ℕ
@@ -83,7 +87,7 @@ pub record Reached : Type 0 where
 
 -- nothing stands above
 abbrev pub begun : Reached
-begun = record { variables = []; frames = []; features = []; measuring = None; aiming = false; assigned = []; blocks = [] }
+begun = record { variables = []; frames = []; features = []; within = false; since = 0; measuring = None; aiming = false; assigned = []; blocks = [] }
 
 -- the first of the variables of a text that carries how far its values may lie from the machine's: no text can write it
 abbrev pub first_variables : Bool → List Variable
@@ -154,6 +158,10 @@ abbrev pub assigned : ℕ → ℕ → List Variable → Target → Source → Li
 assigned line e vs t value = assigned_by line e vs t value (variable_of vs t.expansion t.name)
 
 -- ---- events
+
+-- an output line isn't written
+abbrev pub unreported : ℕ → Guarded
+unreported line = remarks line 0 (form.Assignment (carried_target carried.Asked) (truth false)) NotReported
 
 -- whether a number is 0; what is no number counts as that
 abbrev pub is_nothing : Option Term → Bool
@@ -241,7 +249,7 @@ begins_block false line i = []
 abbrev pub happens : Text → Around → ℕ → ℕ → List Variable → Event → Source → List Guarded
 happens text around line e vs events.Mode v = turns_machine line carried.Mode causes.Mode (is_nothing (leaf_in v))
 happens text around line e vs events.Table v = turns_machine line carried.Table causes.Table (is_nothing (leaf_in v))
-happens text around line e vs events.Scanning v = turns_machine line carried.Scanning causes.Scanning (is_nothing (leaf_in v))
+happens text around line e vs events.Scanning v = turns_state line carried.Scanning causes.Scanning (is_nothing (leaf_in v))
 happens text around line e vs events.Unit v = turns_state line carried.Unit causes.Unit (is_nothing (leaf_in v))
 happens text around line e vs events.OwnPoints v = turns_state line carried.OwnPoints causes.Mode (is_nothing (leaf_in v))
 happens text around line e vs events.Approach v = turns_state line carried.Approach causes.Setting (is_nothing (leaf_in v))
@@ -256,7 +264,7 @@ happens text around line e vs events.Untried v = untried line ∷ []
 happens text around line e vs events.UntriedPoint v = untried_point line
 happens text around line e vs events.Values v = raise line carried.Values (pos 1) ∷ []
 happens text around line e vs events.Features v = raise line carried.Features FEATURES_STEP ∷ []
-happens text around line e vs events.Frames v = set line carried.Floor (Plain (carried_term carried.Latest)) ∷ []
+happens text around line e vs events.Frames v = drops_frames line
 happens text around line e vs events.Frame v = lose_frame line ∷ []
 happens text around line e vs events.Saving v = set line carried.Saving (Plain (number (pos 0))) ∷ []
 happens text around line e vs events.Machine v = recalls_machine text.machine text.datums line
@@ -270,10 +278,17 @@ happens text around line e vs events.PolarPoint v = elsewhere line ∷ (untried_
 happens text around line e vs events.Bind v = []
 happens text around line e vs events.Origins v = begins_origins text.datums line
 happens text around line e vs events.Origin v = []
+happens text around line e vs events.DropFrame v = drops_frames line
+happens text around line e vs events.DropFeature v = raise line carried.Features FEATURES_STEP ∷ []
+happens text around line e vs events.StoreFrame v = set line carried.Saving (Plain (number (pos 0))) ∷ []
+happens text around line e vs events.Width v = other_tip line
+happens text around line e vs events.Remake v = raise line carried.Features FEATURES_STEP ∷ []
+happens text around line e vs events.Depth v = []
+happens text around line e vs events.Unreported v = unreported line ∷ []
 happens text around line e vs events.CaseValue v = adds_number line around.depth (leaf_in v)
 happens text around line e vs events.CaseBegins v = begins_block text.several line around.depth
 happens text around line e vs events.Ends v = to_the_end line ∷ []
-happens text around line e vs events.All v = untried line ∷ lose_all line
+happens text around line e vs events.All v = lose_all line ++ untried line ∷ []
 
 -- an assignment: an event, or one to a variable of the text
 abbrev pub assigns_or : Text → Around → ℕ → ℕ → List Variable → Target → Source → Option Event → List Guarded
@@ -455,13 +470,14 @@ configures slanted line e vs which value =
     else lose line (carried_setting which) causes.Setting ∷ []
 
 -- what is carried of a frame is declared with it
-abbrev pub declares_frame : Bool → ℕ → ℕ → Option ℕ → List Guarded
-declares_frame datums line i None = declare_item line items.Saved i ∷ declares_axes datums line i
-declares_frame datums line i (Some j) = []
+abbrev pub declares_frame : Text → ℕ → ℕ → Option ℕ → List Guarded
+declares_frame text line i None = declare_item line items.Saved i ∷ (declares_stored text.saving line i ++ declares_axes text.datums line i)
+declares_frame text line i (Some j) = []
 
 -- behind a frame that is made it is a new one, elsewhere it isn't known
-unfoldable pub made_where : Bool → ℕ → ℕ → List Guarded
-made_where datums line i = saves_frame line i ++ (keeps_axes datums line i ++ elsewhere line ∷ (frame_gone line (Some i) ++ ends line ∷ []))
+unfoldable pub made_where : Text → ℕ → ℕ → List Guarded
+made_where text line i =
+    saves_frame line i ++ (keeps_stored text.saving line i ++ (keeps_axes text.datums line i ++ elsewhere line ∷ (frame_gone line (Some i) ++ ends line ∷ [])))
 
 -- what was found, if it was
 abbrev pub found_in : Result ℕ FaultCode → Option ℕ
@@ -482,29 +498,29 @@ abbrev pub asks_shifts : ℕ → List Variable → Offset → List Guarded
 asks_shifts line vs o = asks_all line vs o.length
 
 -- TRANS at the index of its frame; without room in the table it is refused
-abbrev pub shifts_at : Bool → ℕ → ℕ → List Variable → List ℕ → List Offset → Option ℕ → Option ℕ → List Guarded
-shifts_at datums line e vs l os was None = stands line e (form.Shift l os) ∷ []
-shifts_at datums line e vs l os was (Some i) =
-    declares_frame datums line i was ++ asks line length_asks
-    ∷ (flat_map (asks_shifts line vs) os ++ where_known line ∷ stands line e (form.Shift l os) ∷ made_where datums line i)
+abbrev pub shifts_at : Text → ℕ → ℕ → List Variable → List ℕ → List Offset → Option ℕ → Option ℕ → List Guarded
+shifts_at text line e vs l os was None = stands line e (form.Shift l os) ∷ []
+shifts_at text line e vs l os was (Some i) =
+    declares_frame text line i was ++ asks line length_asks
+    ∷ (flat_map (asks_shifts line vs) os ++ where_known line ∷ stands line e (form.Shift l os) ∷ made_where text line i)
 
 -- TRANS whose shifts have forms
-abbrev pub shifts_in : Bool → ℕ → ℕ → List Variable → List (List ℕ) → List ℕ → List Offset → List Guarded
-shifts_in datums line e vs ds l os = shifts_at datums line e vs l os (index_of ds l) (found_in (entered ds l))
+abbrev pub shifts_in : Text → ℕ → ℕ → List Variable → List (List ℕ) → List ℕ → List Offset → List Guarded
+shifts_in text line e vs ds l os = shifts_at text line e vs l os (index_of ds l) (found_in (entered ds l))
 
 -- TRANS
-abbrev pub shifts : Bool → ℕ → ℕ → List Variable → List (List ℕ) → List ℕ → List Offset → List Guarded
-shifts datums line e vs ds l os = if has_shifts vs os then shifts_in datums line e vs ds l os else frame_gone line (index_of ds l)
+abbrev pub shifts : Text → ℕ → ℕ → List Variable → List (List ℕ) → List ℕ → List Offset → List Guarded
+shifts text line e vs ds l os = if has_shifts vs os then shifts_in text line e vs ds l os else frame_gone line (index_of ds l)
 
 -- a frame by its origins at its index; without room in the table it is refused
-abbrev pub origins_at : ℕ → ℕ → List ℕ → List Offset → Option ℕ → Option ℕ → List Guarded
-origins_at line e l os was None = stands line e (form.Shift l (map shift_of os)) ∷ []
-origins_at line e l os was (Some i) =
-    declares_frame true line i was ++ asks line frame_asks ∷ where_known line ∷ stands line e (form.Shift l (map shift_of os)) ∷ made_where true line i
+abbrev pub origins_at : Text → ℕ → ℕ → List ℕ → List Offset → Option ℕ → Option ℕ → List Guarded
+origins_at text line e l os was None = stands line e (form.Shift l (map shift_of os)) ∷ []
+origins_at text line e l os was (Some i) =
+    declares_frame text line i was ++ asks line frame_asks ∷ where_known line ∷ stands line e (form.Shift l (map shift_of os)) ∷ made_where text line i
 
 -- a frame by its origins
-abbrev pub origins_in : ℕ → ℕ → List (List ℕ) → List ℕ → List Offset → List Guarded
-origins_in line e ds l os = origins_at line e l os (index_of ds l) (found_in (entered ds l))
+abbrev pub origins_in : Text → ℕ → ℕ → List (List ℕ) → List ℕ → List Offset → List Guarded
+origins_in text line e ds l os = origins_at text line e l os (index_of ds l) (found_in (entered ds l))
 
 -- what has to be known for a turn: also that angles are in decimal degrees, in a text that may have others
 abbrev pub turn_asks : Bool → Source
@@ -512,15 +528,15 @@ turn_asks true = both length_asks (is_current carried.Angle)
 turn_asks false = length_asks
 
 -- ROTATE at the index of its frame; without room in the table it is refused
-abbrev pub turns_at : (angles datums : Bool) → ℕ → ℕ → List ℕ → FrameAxis → Quarters → Option ℕ → Option ℕ → List Guarded
-turns_at angles datums line e l axis n was None = stands line e (form.Rotation l axis n) ∷ []
-turns_at angles datums line e l axis n was (Some i) =
-    declares_frame datums line i was ++ asks line (turn_asks angles) ∷ where_known line ∷ stands line e (form.Rotation l axis n)
-    ∷ (turns_axes datums line ++ made_where datums line i)
+abbrev pub turns_at : Text → ℕ → ℕ → List ℕ → FrameAxis → Quarters → Option ℕ → Option ℕ → List Guarded
+turns_at text line e l axis n was None = stands line e (form.Rotation l axis n) ∷ []
+turns_at text line e l axis n was (Some i) =
+    declares_frame text line i was ++ asks line (turn_asks text.polar) ∷ where_known line ∷ stands line e (form.Rotation l axis n)
+    ∷ (turns_axes text.datums line ++ made_where text line i)
 
 -- ROTATE
-abbrev pub turns_in : (angles datums : Bool) → ℕ → ℕ → List (List ℕ) → List ℕ → FrameAxis → Quarters → List Guarded
-turns_in angles datums line e ds l axis n = turns_at angles datums line e l axis n (index_of ds l) (found_in (entered ds l))
+abbrev pub turns_in : Text → ℕ → ℕ → List (List ℕ) → List ℕ → FrameAxis → Quarters → List Guarded
+turns_in text line e ds l axis n = turns_at text line e l axis n (index_of ds l) (found_in (entered ds l))
 
 -- behind a frame that is recalled it is the current one, elsewhere this isn't known
 unfoldable pub recalled_where : Bool → ℕ → ℕ → List Guarded
@@ -558,15 +574,15 @@ abbrev pub obtains_by : ℕ → ℕ → List Variable → List (List ℕ) → Ta
 obtains_by line e vs fs t side l word None = []
 obtains_by line e vs fs t side l word (Some i) = obtains_at line e vs t side l word i (slice_get (kinds_of vs) i) (index_of fs l)
 
--- OBTAIN, or a statement about a datum
-abbrev pub queries : ℕ → ℕ → List Variable → List (List ℕ) → Target → Side → List ℕ → FeatureWord → Option Event → List Guarded
-queries line e vs fs t side l word (Some events.Bind) = binds line (index_of fs l)
-queries line e vs fs t side l word (Some events.Origin) = originates line e l word (index_of fs l)
-queries line e vs fs t side l word event = obtains_by line e vs fs t side l word (variable_of vs t.expansion t.name)
-
--- an output line isn't written
-abbrev pub unreported : ℕ → Guarded
-unreported line = remarks line 0 (form.Assignment (carried_target carried.Asked) (truth false)) NotReported
+-- OBTAIN, or a statement about a datum, or what happens to a feature or a frame by its name
+abbrev pub queries : Bool → ℕ → ℕ → List Variable → (fs ds : List (List ℕ)) → Target → Side → List ℕ → FeatureWord → Option Event → List Guarded
+queries datums line e vs fs ds t side l word (Some events.Bind) = binds line (index_of fs l)
+queries datums line e vs fs ds t side l word (Some events.Origin) = originates line e l word (index_of fs l)
+queries datums line e vs fs ds t side l word (Some events.DropFeature) = drops_feature datums line (index_of fs l)
+queries datums line e vs fs ds t side l word (Some events.Remake) = remakes_feature datums line (index_of fs l)
+queries datums line e vs fs ds t side l word (Some events.DropFrame) = drops_frame line (index_of ds l)
+queries datums line e vs fs ds t side l word (Some events.StoreFrame) = stores_frame line (index_of ds l)
+queries datums line e vs fs ds t side l word event = obtains_by line e vs fs t side l word (variable_of vs t.expansion t.name)
 
 -- OUTPUT of the feature at an index, where its value is known
 abbrev pub reports_at : ℕ → ℕ → Side → List ℕ → Option ℕ → List Guarded
@@ -695,16 +711,20 @@ ending false line e = stands line e form.Ending ∷ []
 -- ---- each statement
 
 -- a place that is none to go to at once: it is kept, or a step
-abbrev pub spots_by : Bool → ℕ → List Variable → Coordinates → Spot → List Guarded
-spots_by measuring line vs p spots.Home = keeps line vs kept.Home p ++ lose line carried.Home causes.Value ∷ []
-spots_by measuring line vs p spots.Target = keeps line vs kept.Target p
-spots_by measuring line vs p spots.Step = steps_by measuring line vs Add p
-spots_by measuring line vs p spots.Back = steps_by measuring line vs Sub p
+abbrev pub spots_by : (aiming measuring : Bool) → ℕ → List Variable → Coordinates → Spot → List Guarded
+spots_by aiming measuring line vs p spots.Home = keeps line vs kept.Home p ++ lose line carried.Home causes.Value ∷ []
+spots_by aiming measuring line vs p spots.Target = keeps line vs kept.Target p
+spots_by aiming measuring line vs p spots.Step = steps_by aiming measuring line vs Add p
+spots_by aiming measuring line vs p spots.Back = steps_by aiming measuring line vs Sub p
+
+-- whether a GOTARG may be open: in writing, or by a jump
+abbrev pub is_aimed : Text → Reached → Bool
+is_aimed text r = r.aiming || (text.jumps && text.spots)
 
 -- FEAT, or such a place
 abbrev pub features_or : Text → Reached → ℕ → ℕ → List ℕ → Coordinates → Axis → Option Spot → List Guarded
 features_or text r line e l p d None = features text.pointed text.datums line e r.variables r.features l p d
-features_or text r line e l p d (Some s) = spots_by (is_some r.measuring) line r.variables p s
+features_or text r line e l p d (Some s) = spots_by (is_aimed text r) r.within line r.variables p s
 
 -- the direction of the feature at an index, as it is carried
 abbrev pub direction_in : ℕ → Coordinates
@@ -722,25 +742,25 @@ slants_or text line vs i (x ∷ y ∷ z ∷ []) =
 slants_or text line vs i os = slants text.slants text.steps line vs os
 
 -- TRANS, or a frame by its origins
-abbrev pub frames_by : Bool → ℕ → ℕ → List Variable → List (List ℕ) → List ℕ → List Offset → Bool → List Guarded
-frames_by datums line e vs ds l os true = origins_in line e ds l os
-frames_by datums line e vs ds l os false = shifts datums line e vs ds l os
+abbrev pub frames_by : Text → ℕ → ℕ → List Variable → List (List ℕ) → List ℕ → List Offset → Bool → List Guarded
+frames_by text line e vs ds l os true = origins_in text line e ds l os
+frames_by text line e vs ds l os false = shifts text line e vs ds l os
 
 -- a frame, or a point that is approached and left
 abbrev pub shifts_or : Text → Reached → ℕ → ℕ → List ℕ → List Offset → Bool → List Guarded
 shifts_or text r line e l os true = slants_or text line r.variables (measured_index r.features r.measuring) os
-shifts_or text r line e l os false = frames_by text.datums line e r.variables r.frames l os (are_origins os)
+shifts_or text r line e l os false = frames_by text line e r.variables r.frames l os (are_origins os)
 
 -- where a statement stands
 abbrev pub around : Reached → Around
-around r = record { measuring = is_some r.measuring; depth = inner_depth r.blocks }
+around r = record { measuring = r.within; depth = inner_depth r.blocks }
 
 -- what a statement is put as
 abbrev pub guards : Text → Reached → ℕ → ℕ → Form → List Guarded
 guards text r line e (form.Declaration k names) = declares_all line r.variables e k names ++ stands line e (form.Declaration k names) ∷ []
 guards text r line e (form.Assignment t value) = assigns_or text (around r) line e r.variables t value (event_named t.name)
-guards text r line e (form.Move p) = moves text.steps line e r.variables r.aiming (is_some r.measuring) p
-guards text r line e form.Home = homes text.from text.steps (is_some r.measuring) line e
+guards text r line e (form.Move p) = moves text.steps line e r.variables (is_aimed text r) r.within p
+guards text r line e form.Home = homes text.from text.steps (is_aimed text r) r.within line e
 guards text r line e (form.Test c) = tests line e r.variables c
 guards text r line e form.TestEnd = chooses_end line e form.TestEnd (first_block r.blocks) r.assigned
 guards text r line e (form.Repeat rounds) = repeats line e r.variables rounds (loops_by r.variables rounds)
@@ -753,9 +773,9 @@ guards text r line e (form.Touch p d) = touches text.steps line e r.variables r.
 guards text r line e form.MeasureEnd = measured text.datums line r.features r.measuring
 guards text r line e (form.Configure which value) = configures text.slants line e r.variables which value
 guards text r line e (form.Shift l os) = shifts_or text r line e l os (is_same_name slanted_name l)
-guards text r line e (form.Rotation l axis n) = turns_in text.polar text.datums line e r.frames l axis n
+guards text r line e (form.Rotation l axis n) = turns_in text line e r.frames l axis n
 guards text r line e (form.Restore l) = recalls_at text.datums line e l (index_of r.frames l)
-guards text r line e (form.Query t side l word) = queries line e r.variables r.features t side l word (event_named t.name)
+guards text r line e (form.Query t side l word) = queries text.datums line e r.variables r.features r.frames t side l word (event_named t.name)
 guards text r line e (form.Report side l) = reports_at line e side l (index_of r.features l)
 guards text r line e (form.Case n) = cases text.several line e (inner_depth r.blocks) n
 guards text r line e form.Default = defaults text.several line e (inner_depth r.blocks)
@@ -782,19 +802,40 @@ abbrev pub reaches_shift : Reached → List ℕ → List Offset → Bool → Rea
 reaches_shift r l os true = r
 reaches_shift r l os false = if makes_frame r.variables os then record r { frames = with_known r.frames l } else r
 
+-- a measurement begins here
+abbrev pub measuring_from : Reached → List ℕ → Reached
+measuring_from r l = record r { within = true; since = length r.blocks; measuring = Some l }
+
+-- it isn't sure any more which feature is measured, if one is
+abbrev pub doubted : Reached → Reached
+doubted r = record r { measuring = None }
+
+-- the same behind another branch, or the end, of a block in which the measurement begins
+abbrev pub branched : Reached → Reached
+branched r = if nat_lt r.since (length r.blocks) then r else doubted r
+
+-- a block ends
+abbrev pub left : Reached → Reached
+left r = record (branched r) { blocks = closed r.blocks }
+
 -- what stands above behind a statement, beside what it may do
 abbrev pub reaches_form : Reached → ℕ → ℕ → Form → Reached
 reaches_form r line e (form.Declaration k names) = record r { variables = with_variables r.variables e k names }
 reaches_form r line e (form.Test c) = record r { blocks = opened (block line None (next_depth r.blocks) r.assigned) r.blocks }
 reaches_form r line e (form.Choose c) = record r { blocks = opened (block line None (next_depth r.blocks) r.assigned) r.blocks }
 reaches_form r line e (form.Repeat rounds) = record r { blocks = opened (block line (loops_by r.variables rounds) (next_depth r.blocks) r.assigned) r.blocks }
-reaches_form r line e form.TestEnd = record r { blocks = closed r.blocks }
-reaches_form r line e form.ChooseEnd = record r { blocks = closed r.blocks }
-reaches_form r line e form.RepeatEnd = record r { blocks = closed r.blocks }
+reaches_form r line e form.TestEnd = left r
+reaches_form r line e form.ChooseEnd = left r
+reaches_form r line e form.RepeatEnd = left r
+reaches_form r line e form.Otherwise = branched r
+reaches_form r line e (form.Case n) = branched r
+reaches_form r line e form.CaseEnd = branched r
+reaches_form r line e form.Default = branched r
+reaches_form r line e (form.Mark name) = doubted r
 reaches_form r line e (form.Assignment t value) = if bytes_eq t.name (event_name events.Target) then record r { aiming = false } else r
 reaches_form r line e (form.Feature l p d) = reaches_feature r l p (spot_named l)
-reaches_form r line e (form.Measure l) = record r { measuring = Some l }
-reaches_form r line e form.MeasureEnd = record r { measuring = None }
+reaches_form r line e (form.Measure l) = measuring_from r l
+reaches_form r line e form.MeasureEnd = record r { within = false; measuring = None }
 reaches_form r line e (form.Shift l os) = reaches_shift r l os (is_same_name slanted_name l)
 reaches_form r line e (form.Rotation l axis n) = record r { frames = with_known r.frames l }
 reaches_form r line e f = r
@@ -807,12 +848,59 @@ noted r e is = record r { blocks = with_effects e r.blocks; assigned = r.assigne
 abbrev pub reaches : Reached → ℕ → ℕ → Form → Reached
 reaches r line e f = noted (reaches_form r line e f) (effects_of f) (set_by r.variables f)
 
+-- ---- what is made below in writing
+
+-- a shift that makes no frame, of one that is made below alone
+abbrev pub late_shift : Made → Reached → ℕ → List ℕ → List Offset → List Guarded
+late_shift made r line l os =
+    late_frame line (not (is_same_name slanted_name l) && (not (makes_frame r.variables os) && is_late r.frames made.frames l))
+
+-- a FEAT without a place, of a feature that is declared below alone
+abbrev pub late_place : Made → Reached → ℕ → List ℕ → Coordinates → Option Spot → List Guarded
+late_place made r line l p None = late_feature line (not (has_place r.variables p) && is_late r.features made.features l)
+late_place made r line l p (Some s) = []
+
+-- a point of a feature that is declared below alone: it is declared by its own place here
+abbrev pub late_touch : Made → Reached → ℕ → Option (List ℕ) → List Guarded
+late_touch made r line None = []
+late_touch made r line (Some l) = late_feature line (is_late r.features made.features l)
+
+-- the end of a measurement of such a feature, or of one that isn't sure
+abbrev pub late_end : Made → Reached → ℕ → Option (List ℕ) → List Guarded
+late_end made r line None = late_feature line true
+late_end made r line (Some l) = late_feature line (is_late r.features made.features l)
+
+-- a value for a variable that is declared below alone
+abbrev pub late_value : Made → Reached → ℕ → Target → Option Event → List Guarded
+late_value made r line t None = late_variable line (is_late_variable r.variables made.variables t)
+late_value made r line t (Some e) = []
+
+-- output of a feature that is declared below alone
+abbrev pub late_report : ℕ → Bool → List Guarded
+late_report line true = unreported line ∷ []
+late_report line false = []
+
+-- what isn't known any more before a statement that is about something that is made below alone
+abbrev pub lates : Made → Reached → ℕ → Form → List Guarded
+lates made r line (form.Shift l os) = late_shift made r line l os
+lates made r line (form.Feature l p d) = late_place made r line l p (spot_named l)
+lates made r line (form.Touch p d) = late_touch made r line r.measuring
+lates made r line form.MeasureEnd = late_end made r line r.measuring
+lates made r line (form.Assignment t value) = late_value made r line t (event_named t.name)
+lates made r line (form.Query t side l word) = late_value made r line t (event_named t.name)
+lates made r line (form.Report side l) = late_report line (is_late r.features made.features l)
+lates made r line f = []
+
+-- one statement, with that before it
+abbrev pub guards_late : Text → Made → Reached → ℕ → ℕ → Form → List Guarded
+guards_late text made r line e f = lates made r line f ++ guards text r line e f
+
 -- what statements are put as, one behind the other
-abbrev pub guards_from : Text → Reached → List Placed → List Guarded
-guards_from text r [] = []
-guards_from text r (p ∷ ps) =
-    guards text r p.statement.line p.expansion (exact_form r.variables p.statement.form)
-    ++ guards_from text (reaches r p.statement.line p.expansion (exact_form r.variables p.statement.form)) ps
+abbrev pub guards_from : Text → Made → Reached → List Placed → List Guarded
+guards_from text made r [] = []
+guards_from text made r (p ∷ ps) =
+    guards_late text made r p.statement.line p.expansion (exact_form r.variables p.statement.form)
+    ++ guards_from text made (reaches r p.statement.line p.expansion (exact_form r.variables p.statement.form)) ps
 
 -- ---- the whole text
 
@@ -935,9 +1023,23 @@ is_dated f = false
 abbrev pub is_dated_placed : Placed → Bool
 is_dated_placed p = is_dated p.statement.form
 
+-- whether an event keeps a frame elsewhere
+abbrev pub is_storing_event : Option Event → Bool
+is_storing_event (Some events.StoreFrame) = true
+is_storing_event e = false
+
+-- whether a statement does
+abbrev pub is_storing : Form → Bool
+is_storing (form.Query t side l word) = is_storing_event (event_named t.name)
+is_storing f = false
+
+-- and so in its expansion
+abbrev pub is_storing_placed : Placed → Bool
+is_storing_placed p = is_storing p.statement.form
+
 -- what holds of a text: whether it has jumps, whether the machine's frame has a name of its own, whether it has places that are kept or steps, a FROM, steps, points that
--- are approached and left, some of them along the directions of their features, polar places or angles in another unit, datums, a CASE with several values, and
--- whether values may be cut off
+-- are approached and left, some of them along the directions of their features, polar places or angles in another unit, datums, frames that are kept elsewhere, a CASE with
+-- several values, and whether values may be cut off
 abbrev pub text_of : List Placed → Text
 text_of ps = record {
   jumps = list_any is_jump_placed ps;
@@ -949,6 +1051,7 @@ text_of ps = record {
   pointed = list_any is_pointed_placed ps;
   polar = list_any is_polar_placed ps;
   datums = list_any is_dated_placed ps;
+  saving = list_any is_storing_placed ps;
   several = list_any is_several_placed ps;
   cut = list_any is_cut_placed ps;
 }
@@ -997,4 +1100,4 @@ opens_first text = keeps_machine text.machine ++ (opening ++ opens_polar text.po
 
 -- what a text is put as
 abbrev pub guarded : List Placed → List Guarded
-guarded ps = declares_first (text_of ps) ++ (opens_first (text_of ps) ++ guards_from (text_of ps) (begun_in (text_of ps).cut) ps)
+guarded ps = declares_first (text_of ps) ++ (opens_first (text_of ps) ++ guards_from (text_of ps) (made_by ps) (begun_in (text_of ps).cut) ps)

@@ -3,6 +3,8 @@ pub mod Effects
 pub mod Exactly
 pub mod Choices
 pub mod Datums
+pub mod Named
+pub mod Late
 pub mod Guarding
 pub mod inner
 pub mod Put

@@ -36,32 +36,32 @@ has_place vs p = has_form vs wants.Length p.x && (has_form vs wants.Length p.y &
 unfoldable pub asks_place : ℕ → List Variable → Coordinates → List Guarded
 asks_place line vs p = asks_all line vs p.x ++ (asks_all line vs p.y ++ asks_all line vs p.z)
 
--- what has to be known for a motion: a programmed mode, no table, no scan, millimetres, the frame
+-- what has to be known for a motion: a programmed mode, no table, millimetres, the frame
 unfoldable pub motion_asks : Source
-motion_asks = both knows_frame (are_current (carried.Mode ∷ carried.Table ∷ carried.Scanning ∷ carried.Unit ∷ []))
+motion_asks = both knows_frame (are_current (carried.Mode ∷ carried.Table ∷ carried.Unit ∷ []))
 
 -- for a length in a frame
 unfoldable pub length_asks : Source
 length_asks = both knows_frame (are_current (carried.Unit ∷ []))
 
--- and for a point
+-- and for a point, which is none of a scan
 unfoldable pub point_asks : Source
 point_asks = both motion_asks (are_current
-    (carried.OwnPoints ∷ carried.Approach ∷ carried.Search ∷ carried.Retract ∷ carried.Clearance ∷ carried.Compensation ∷ carried.Qualification ∷ []))
+    (carried.Scanning ∷ carried.OwnPoints ∷ carried.Approach ∷ carried.Search ∷ carried.Retract ∷ carried.Clearance ∷ carried.Compensation ∷ carried.Qualification ∷ []))
 
 -- for a point that is approached and left, which has no search
 unfoldable pub approach_asks : Source
 approach_asks = both motion_asks (are_current
-    (carried.OwnPoints ∷ carried.Approach ∷ carried.Retract ∷ carried.Clearance ∷ carried.Compensation ∷ carried.Qualification ∷ []))
+    (carried.Scanning ∷ carried.OwnPoints ∷ carried.Approach ∷ carried.Retract ∷ carried.Clearance ∷ carried.Compensation ∷ carried.Qualification ∷ []))
 
 -- behind GOTARG the machine may go by its own ways, where it may take points of its own
 abbrev pub aimed : Bool → Source → Source
 aimed true e = both e (is_current carried.OwnPoints)
 aimed false e = e
 
--- within a measurement the machine may go over a clearance surface first, where there is one
+-- within a measurement the machine may go over a clearance surface first, where there is one, or scan, or take points of its own
 abbrev pub within : Bool → Source → Source
-within true e = both e (is_current carried.Clearance)
+within true e = both e (are_current (carried.Scanning ∷ carried.OwnPoints ∷ carried.Clearance ∷ []))
 within false e = e
 
 -- what has to be known of a way to a place: this, and the variables of the place
@@ -121,18 +121,18 @@ moves steps line e vs aiming measuring p = if has_place vs p then moves_known st
 
 -- what has to be known for the way to the home of the part
 unfoldable pub home_asks : Source
-home_asks = are_current (carried.Mode ∷ carried.Table ∷ carried.Scanning ∷ carried.Home ∷ [])
+home_asks = are_current (carried.Mode ∷ carried.Table ∷ carried.Home ∷ [])
 
 -- the way to the home of the part
-unfoldable pub goes_home : (steps measuring : Bool) → ℕ → ℕ → List Guarded
-goes_home steps measuring line e = asks line (within measuring home_asks) ∷ (goes line ++ stands line e form.Home ∷ (loses_track steps line ++ gone line))
+unfoldable pub goes_home : (steps aiming measuring : Bool) → ℕ → ℕ → List Guarded
+goes_home steps aiming measuring line e = asks line (within measuring (aimed aiming home_asks)) ∷ (goes line ++ stands line e form.Home ∷ (loses_track steps line ++ gone line))
 
 -- GOHOME: behind a FROM it goes to its place, in the frame of that FROM
-abbrev pub homes : (from steps measuring : Bool) → ℕ → ℕ → List Guarded
-homes false steps measuring line e = goes_home steps measuring line e
-homes true steps measuring line e =
-    stands line 0 (form.Test (is_current carried.Home)) ∷ (goes_home steps measuring line e
-    ++ elsewhere line ∷ (goes_to steps line kept.Home (within measuring motion_asks) ++ ends line ∷ []))
+abbrev pub homes : (from steps aiming measuring : Bool) → ℕ → ℕ → List Guarded
+homes false steps aiming measuring line e = goes_home steps aiming measuring line e
+homes true steps aiming measuring line e =
+    stands line 0 (form.Test (is_current carried.Home)) ∷ (goes_home steps aiming measuring line e
+    ++ elsewhere line ∷ (goes_to steps line kept.Home (within measuring (aimed aiming motion_asks)) ++ ends line ∷ []))
 
 -- ENDGO: the way to the target of GOTARG, if the text has one
 abbrev pub reaches_target : (spots steps measuring : Bool) → ℕ → List Guarded
@@ -153,17 +153,17 @@ unfoldable pub step_asks : Source
 step_asks = both motion_asks (both (pair (Compare NotEqual) (carried_term carried.Place) (number (pos 0))) (is_kept_here kept.Probe))
 
 -- a step of these lengths to a place
-unfoldable pub steps_known : Bool → ℕ → List Variable → Coordinates → Coordinates → List Guarded
-steps_known measuring line vs p q = asks_point line vs (within measuring step_asks) p ++ stands line 0 (form.Move q) ∷ (keeps_here line kept.Probe q ++ gone line)
+unfoldable pub steps_known : (aiming measuring : Bool) → ℕ → List Variable → Coordinates → Coordinates → List Guarded
+steps_known aiming measuring line vs p q = asks_point line vs (within measuring (aimed aiming step_asks)) p ++ stands line 0 (form.Move q) ∷ (keeps_here line kept.Probe q ++ gone line)
 
 -- a step to a place, if there is one
-abbrev pub steps_to : Bool → ℕ → List Variable → Coordinates → Option Coordinates → List Guarded
-steps_to measuring line vs p None = untried line ∷ []
-steps_to measuring line vs p (Some q) = steps_known measuring line vs p q
+abbrev pub steps_to : (aiming measuring : Bool) → ℕ → List Variable → Coordinates → Option Coordinates → List Guarded
+steps_to aiming measuring line vs p None = untried line ∷ []
+steps_to aiming measuring line vs p (Some q) = steps_known aiming measuring line vs p q
 
 -- GOTO/INCR
-abbrev pub steps_by : Bool → ℕ → List Variable → BinaryOp → Coordinates → List Guarded
-steps_by measuring line vs op p = if has_place vs p then steps_to measuring line vs p (step_place op p) else untried line ∷ []
+abbrev pub steps_by : (aiming measuring : Bool) → ℕ → List Variable → BinaryOp → Coordinates → List Guarded
+steps_by aiming measuring line vs op p = if has_place vs p then steps_to aiming measuring line vs p (step_place op p) else untried line ∷ []
 
 -- ---- points that are approached and left
 

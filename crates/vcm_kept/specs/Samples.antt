@@ -3,7 +3,7 @@ use Rattle.std.specs.Prelude.{◌≡◌, refl, ℕ, pos, true, false, List, [], 
 use Rattle.vcm_num.specs.declared.axis.Axis.TheVariants.{PlusZ}
 use Rattle.vcm_num.specs.declared.number.Kind.TheVariants as kinds
 use Rattle.vcm_num.specs.declared.number.Literal.TheVariants.{Int}
-use Rattle.vcm_spec.specs.declared.expression.BinaryOp.TheVariants.{Compare, Or}
+use Rattle.vcm_spec.specs.declared.expression.BinaryOp.TheVariants.{Compare, Or, Sub, Mul}
 use Rattle.vcm_spec.specs.declared.expression.Relation.TheVariants.{Equal, NotEqual, Greater}
 use Rattle.vcm_spec.specs.declared.words.FrameAxis.TheVariants as axes
 use Rattle.vcm_spec.specs.declared.words.FeatureWord.TheVariants as words
@@ -24,23 +24,27 @@ use Rattle.vcm_events.specs.Joined.{pair}
 use Rattle.vcm_events.specs.Unknown.{unknown, unknown_place, unknown_rounds}
 use Rattle.vcm_events.specs.declared.spots.Spot.TheVariants as spots
 use Rattle.vcm_events.specs.Spots.{spotted, slanted}
-use Rattle.vcm_events.specs.Datums.{bound, origin_on, origin_length}
+use Rattle.vcm_events.specs.Datums.{happens_to, bound, origin_on, origin_length}
 use Rattle.vcm_templates.specs.declared.guarded.Guarded.{Guarded}
 use Rattle.vcm_templates.specs.declared.carried.Carried.TheVariants as carried
 use Rattle.vcm_templates.specs.declared.carried.Item.TheVariants as items
 use Rattle.vcm_templates.specs.declared.lengths.Kept.TheVariants as kept
 use Rattle.vcm_templates.specs.declared.lengths.Length.TheVariants as lengths
-use Rattle.vcm_templates.specs.Carried.{carried_term, item_term, length_target, length_term}
+use Rattle.vcm_templates.specs.Carried.{carried_target, carried_term, item_term, length_target, length_term}
 use Rattle.vcm_templates.specs.Expressions.{number, truth, both, is_known, is_current, are_current, knows_frame}
-use Rattle.vcm_templates.specs.Templates.{stands, set, set_item, lose, know, untried, asks, asks_variables, asks_within, asks_all, where_known, elsewhere, ends, goes, gone, untried_point, lose_frame, new_frame, frame_gone, sets_bound}
+use Rattle.vcm_templates.specs.Templates.{stands, remarks, raise, set, set_item, lose, know, untried, asks, asks_variables, asks_within, asks_all, where_known, elsewhere, ends, goes, gone, untried_point, lose_frame, new_frame, frame_gone, sets_bound}
 use Rattle.vcm_templates.specs.Exact.{folded}
 use Rattle.vcm_kept.specs.declared.text.Text.{Text}
-use Rattle.vcm_kept.specs.Effects.{no_effects}
+use Rattle.vcm_kept.specs.Effects.{no_effects, other_tip}
+use Rattle.vcm_kept.specs.Named.{keeps_stored}
+use Rattle.vcm_remarks.specs.declared.remark.Remark.TheVariants.{AnotherTip}
+use Rattle.vcm_templates.specs.declared.carried.TheConstants.{FEATURES_STEP}
 use Rattle.vcm_kept.specs.Places.{asks_place, motion_asks, length_asks, point_asks, asks_point, keeps_here, keeps_known, goes_to, moves_known, home_asks, goes_home, forgets}
 use Rattle.vcm_kept.specs.Exactly.{exact_form}
 use Rattle.vcm_kept.specs.Choices.{chosen_by, opens_case, adds_value, begins_case}
 use Rattle.vcm_kept.specs.Datums.{origin_asks, goes_along, asks_origin, keeps_origin, origin_lost, frame_asks}
-use Rattle.vcm_kept.specs.Guarding.{Reached, begun, block, text_of, guards, know_variable, lose_variable, assigned_where, selects, unselected, point_goes, own_point, direction_asks, touches_declared, touches_itself, features_at, nominal_where, setting_where, made_where, recalled_where, machine_name, recalls_machine, unreported, is_measured, obtains_here, measures, closes, unknown_asks, asks_rounds}
+use Rattle.vcm_kept.specs.Late.{Made}
+use Rattle.vcm_kept.specs.Guarding.{Reached, lates, reaches_form, begun, block, text_of, guards, know_variable, lose_variable, assigned_where, selects, unselected, point_goes, own_point, direction_asks, touches_declared, touches_itself, features_at, nominal_where, setting_where, made_where, recalled_where, machine_name, recalls_machine, unreported, is_measured, obtains_here, measures, closes, unknown_asks, asks_rounds}
 
 -- ---- what stands above
 
@@ -104,9 +108,9 @@ pub motion : puts (form.Move place) ≡ asks 9 motion_asks ∷ (place_asked ++ g
 unfolding moves_known asks_point asks_place asks_all asks_variables asks_within
 motion = refl
 
--- within a measurement it asks for the clearance surface besides
-pub motion_within : guards bare (record above { measuring = Some (codes "A") }) 9 0 (form.Move place)
-    ≡ asks 9 (both motion_asks (is_current carried.Clearance)) ∷ (place_asked ++ goes 9 ++ stands 9 0 (form.Move place) ∷ gone 9)
+-- within a measurement it asks for the clearance surface besides, and that the machine neither scans nor takes points of its own
+pub motion_within : guards bare (record above { within = true; measuring = Some (codes "A") }) 9 0 (form.Move place)
+    ≡ asks 9 (both motion_asks (are_current (carried.Scanning ∷ carried.OwnPoints ∷ carried.Clearance ∷ []))) ∷ (place_asked ++ goes 9 ++ stands 9 0 (form.Move place) ∷ gone 9)
 unfolding moves_known asks_point asks_place asks_all asks_variables asks_within
 motion_within = refl
 
@@ -122,7 +126,7 @@ home = refl
 
 -- home, where the text has a FROM
 pub home_from : guards (record bare { from = true }) above 9 0 form.Home
-    ≡ stands 9 0 (form.Test (is_current carried.Home)) ∷ (goes_home false false 9 0 ++ elsewhere 9 ∷ (goes_to false 9 kept.Home motion_asks ++ ends 9 ∷ []))
+    ≡ stands 9 0 (form.Test (is_current carried.Home)) ∷ (goes_home false false false 9 0 ++ elsewhere 9 ∷ (goes_to false 9 kept.Home motion_asks ++ ends 9 ∷ []))
 home_from = refl
 
 -- FROM keeps its place, and home is no more that of the part file
@@ -148,13 +152,13 @@ unfolding measures
 measurement = refl
 
 -- a point of a feature that is declared
-pub touch : guards bare (record above { measuring = Some (codes "A") }) 9 0 (form.Touch place (Some PlusZ))
+pub touch : guards bare (record above { within = true; measuring = Some (codes "A") }) 9 0 (form.Touch place (Some PlusZ))
     ≡ asks 9 (direction_asks 0 (Some PlusZ)) ∷ (place_asked ++ goes 9 ++ point_goes false 9 0 (codes "A") place (Some PlusZ))
 unfolding touches_declared asks_point asks_place asks_all asks_variables asks_within
 touch = refl
 
 -- a point of another feature
-pub touch_itself : guards bare (record above { measuring = Some (codes "B") }) 9 0 (form.Touch place (Some PlusZ))
+pub touch_itself : guards bare (record above { within = true; measuring = Some (codes "B") }) 9 0 (form.Touch place (Some PlusZ))
     ≡ asks 9 point_asks ∷ (place_asked ++ goes 9 ++ own_point false 9 0 (codes "B") place PlusZ)
 unfolding touches_itself asks_point asks_place asks_all asks_variables asks_within
 touch_itself = refl
@@ -177,7 +181,7 @@ feature = refl
 
 -- TRANS
 pub shift : puts (form.Shift (codes "D") (record { axis = axes.X; length = whole 5 } ∷ []))
-    ≡ asks 9 length_asks ∷ where_known 9 ∷ stands 9 0 (form.Shift (codes "D") (record { axis = axes.X; length = whole 5 } ∷ [])) ∷ made_where false 9 0
+    ≡ asks 9 length_asks ∷ where_known 9 ∷ stands 9 0 (form.Shift (codes "D") (record { axis = axes.X; length = whole 5 } ∷ [])) ∷ made_where bare 9 0
 unfolding asks_all asks_variables asks_within
 shift = refl
 
@@ -213,13 +217,41 @@ origin_unknown = refl
 -- the frame, where all its origins are known
 pub framed : puts (form.Shift (codes "D") (record { axis = axes.Z; length = origin_length } ∷ []))
     ≡ asks 9 frame_asks ∷ where_known 9
-    ∷ stands 9 0 (form.Shift (codes "D") (record { axis = axes.Z; length = Plain (length_term lengths.OriginZ) } ∷ [])) ∷ made_where true 9 0
+    ∷ stands 9 0 (form.Shift (codes "D") (record { axis = axes.Z; length = Plain (length_term lengths.OriginZ) } ∷ [])) ∷ made_where bare 9 0
 framed = refl
 
 -- ROTATE, in a text that has datums: the axes are others behind it
 pub turned : guards (record bare { datums = true }) above 9 0 (form.Rotation (codes "D") axes.Z turns.One)
-    ≡ asks 9 length_asks ∷ where_known 9 ∷ stands 9 0 (form.Rotation (codes "D") axes.Z turns.One) ∷ set 9 carried.Straight (Plain (number (pos 0))) ∷ made_where true 9 0
+    ≡ asks 9 length_asks ∷ where_known 9 ∷ stands 9 0 (form.Rotation (codes "D") axes.Z turns.One) ∷ set 9 carried.Straight (Plain (number (pos 0))) ∷ made_where (record bare { datums = true }) 9 0
 turned = refl
+
+-- DELETE of a frame and of a feature, by their names
+pub frame_deleted : puts (happens_to events.DropFrame (codes "D")) ≡ set_item 9 items.Saved 0 (Plain (number (pos 0))) ∷ []
+frame_deleted = refl
+
+pub feature_deleted : puts (happens_to events.DropFeature (codes "A"))
+    ≡ set_item 9 items.Nominal 0 (Plain (number (pos 0))) ∷ set_item 9 items.Measured 0 (Plain (number (pos 0))) ∷ []
+feature_deleted = refl
+
+-- of names that don't stand above: any may be deleted
+pub other_frame_deleted : puts (happens_to events.DropFrame (codes "B")) ≡ set 9 carried.Floor (Plain (carried_term carried.Latest)) ∷ []
+other_frame_deleted = refl
+
+pub other_feature_deleted : puts (happens_to events.DropFeature (codes "B")) ≡ raise 9 carried.Features FEATURES_STEP ∷ []
+other_feature_deleted = refl
+
+-- SAVE: made again, the frame isn't known by its name
+pub stored : puts (happens_to events.StoreFrame (codes "D")) ≡ set_item 9 items.Stored 0 (Plain (number (pos 1))) ∷ []
+stored = refl
+
+pub kept_again : keeps_stored true 9 0
+    ≡ set_item 9 items.Saved 0 (Pair Mul (Plain (item_term items.Saved 0)) (pair Sub (number (pos 1)) (item_term items.Stored 0))) ∷ []
+kept_again = refl
+
+-- a tip of another width
+pub widened : puts (lost events.Width) ≡ remarks 9 0 (form.Assignment (carried_target carried.Asked) (truth false)) AnotherTip ∷ []
+unfolding other_tip
+widened = refl
 
 -- the machine's frame
 pub machine : puts (gained events.Machine) ≡ stands 9 0 (form.Restore machine_name) ∷ new_frame 9
@@ -346,3 +378,33 @@ setting_lost = refl
 pub report : puts (form.Report Actual (codes "A"))
     ≡ asks 9 (both knows_frame (is_measured 0)) ∷ where_known 9 ∷ stands 9 0 (form.Report Actual (codes "A")) ∷ elsewhere 9 ∷ unreported 9 ∷ ends 9 ∷ []
 report = refl
+
+-- ---- what is made below in writing
+
+-- a text that makes the frame B and the feature B below
+abbrev pub below : Made
+below = record { frames = codes "B" ∷ []; features = codes "B" ∷ []; variables = as_read (codes "W") ∷ [] }
+
+-- a frame that isn't known, whose name is made below: what was saved under it isn't known any more
+pub frame_below : lates below above 9 (form.Shift (codes "B") []) ≡ set 9 carried.Floor (Plain (carried_term carried.Latest)) ∷ []
+frame_below = refl
+
+-- and one that is made above
+pub frame_above : lates below above 9 (form.Shift (codes "D") []) ≡ []
+frame_above = refl
+
+-- a feature, a variable, output
+pub feature_below : lates below above 9 (form.Feature (codes "B") unknown_place PlusZ) ≡ raise 9 carried.Features FEATURES_STEP ∷ []
+unfolding folded
+feature_below = refl
+
+pub value_below : lates below above 9 (form.Assignment (as_read (codes "W")) (whole 1)) ≡ raise 9 carried.Values (pos 1) ∷ []
+value_below = refl
+
+pub output_below : lates below above 9 (form.Report Actual (codes "B")) ≡ unreported 9 ∷ []
+output_below = refl
+
+-- behind ELSE it isn't sure which feature a MEAS of the branch before measures
+pub other_branch : (reaches_form (reaches_form (reaches_form above 8 0 (form.Test (truth true))) 9 0 (form.Measure (codes "A"))) 10 0 form.Otherwise).measuring ≡ None
+unfolding folded
+other_branch = refl

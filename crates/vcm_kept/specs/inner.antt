@@ -1,2 +1,3 @@
 -- Definitions that private contracts name.
 pub mod Reaching
+pub mod Making

@@ -13,7 +13,7 @@ ghost use Rattle.vcm_events.specs.Events.{event_named};
 ghost use Rattle.vcm_events.specs.Spots.{spot_named};
 ghost use Rattle.vcm_templates.specs.Expressions.{number};
 ghost use Rattle.vcm_templates.specs.Templates.{untried, lose_all};
-ghost use Rattle.vcm_kept.specs.Effects.{no_effects, either_effects, may_move, may_turn, may_select, may_set, may_frame, may_declare, may_measure, may_keep, may_plane, event_effects, assignment_effects, feature_effects, effects_of, listed_index, set_by, where_may, lose_motions, lose_machine, lose_sensor, lose_settings, lose_frames, lose_kept, lose_planes, lose_index, lose_state, lose_saved, lose_effects, lose_block};
+ghost use Rattle.vcm_kept.specs.Effects.{no_effects, either_effects, may_move, may_switch, may_turn, may_scan, may_convert, may_select, may_widen, may_put_on, may_set, may_frame, may_declare, may_measure, may_keep, may_plane, event_effects, assignment_effects, feature_effects, effects_of, listed_index, set_by, where_may, lose_motions, lose_modes, lose_tables, lose_scans, lose_units, lose_machine, lose_sensor, other_tip, lose_settings, lose_frames, lose_kept, lose_planes, lose_index, lose_state, lose_saved, lose_effects, lose_block};
 
 use crate::places::forget;
 use std::alloc::Global;
@@ -22,10 +22,10 @@ use vcm_expr::{Expr, Names};
 use vcm_forms::{Form, Target};
 use vcm_items::Name;
 use vcm_num::NoMemory;
-use vcm_remarks::Cause;
+use vcm_remarks::{Cause, Remark};
 use vcm_templates::{
     Carried, FEATURES_STEP, Guarded, Item, Kept, UNKNOWN_SENSOR, go_to_end, lose, lose_all,
-    lose_frame, lose_item, raise, set, set_number, untried,
+    lose_frame, lose_item, raise, remark, set, set_number, truth, untried,
 };
 
 /// What statements may do.
@@ -33,10 +33,18 @@ use vcm_templates::{
 pub struct Effects {
     /// They may move the probe.
     pub moves: bool,
-    /// They may change the mode or the unit, turn a table or scan.
-    pub machine: bool,
+    /// They may change the mode.
+    pub modes: bool,
+    /// They may turn a table.
+    pub tables: bool,
+    /// They may scan, or end that.
+    pub scans: bool,
+    /// They may change the unit.
+    pub units: bool,
     /// They may bring the probe elsewhere, as another sensor does.
     pub selects: bool,
+    /// They may put on another tip.
+    pub tips: bool,
     /// They may set the distances of points, or whether points are compensated.
     pub settings: bool,
     /// They may make or recall frames.
@@ -75,8 +83,12 @@ impl Effects {
     {
         Effects {
             moves: false,
-            machine: false,
+            modes: false,
+            tables: false,
+            scans: false,
+            units: false,
             selects: false,
+            tips: false,
             settings: false,
             frames: false,
             features: false,
@@ -94,8 +106,12 @@ impl Effects {
     {
         Effects {
             moves: either(self.moves, other.moves),
-            machine: either(self.machine, other.machine),
+            modes: either(self.modes, other.modes),
+            tables: either(self.tables, other.tables),
+            scans: either(self.scans, other.scans),
+            units: either(self.units, other.units),
             selects: either(self.selects, other.selects),
+            tips: either(self.tips, other.tips),
             settings: either(self.settings, other.settings),
             frames: either(self.frames, other.frames),
             features: either(self.features, other.features),
@@ -126,13 +142,41 @@ impl Effects {
         effects
     }
 
-    // A change of the machine's state.
+    // Another mode.
+    fn switch() -> Effects
+        ensures { result ≡ may_switch }
+    {
+        let mut effects = Effects::none();
+        effects.modes = true;
+        effects.selects = true;
+        effects
+    }
+
+    // A turn of a table.
     fn turn() -> Effects
         ensures { result ≡ may_turn }
     {
         let mut effects = Effects::none();
-        effects.machine = true;
+        effects.tables = true;
         effects.selects = true;
+        effects
+    }
+
+    // Scanning.
+    fn scan() -> Effects
+        ensures { result ≡ may_scan }
+    {
+        let mut effects = Effects::none();
+        effects.scans = true;
+        effects
+    }
+
+    // Another unit.
+    fn conversion() -> Effects
+        ensures { result ≡ may_convert }
+    {
+        let mut effects = Effects::none();
+        effects.units = true;
         effects
     }
 
@@ -142,6 +186,25 @@ impl Effects {
     {
         let mut effects = Effects::none();
         effects.selects = true;
+        effects
+    }
+
+    // Another tip.
+    fn widening() -> Effects
+        ensures { result ≡ may_widen }
+    {
+        let mut effects = Effects::none();
+        effects.tips = true;
+        effects
+    }
+
+    // Another sensor.
+    fn sensor() -> Effects
+        ensures { result ≡ may_put_on }
+    {
+        let mut effects = Effects::none();
+        effects.selects = true;
+        effects.tips = true;
         effects
     }
 
@@ -222,9 +285,13 @@ impl Effects {
         ensures { result ≡ event_effects event }
     {
         match event {
-            Event::Mode | Event::Table | Event::Scanning | Event::Unit => Effects::turn(),
-            Event::OwnPoints => Effects::turn(),
-            Event::Place | Event::Sensor => Effects::selection(),
+            Event::Mode | Event::OwnPoints => Effects::switch(),
+            Event::Table => Effects::turn(),
+            Event::Scanning => Effects::scan(),
+            Event::Unit => Effects::conversion(),
+            Event::Place => Effects::selection(),
+            Event::Sensor => Effects::sensor(),
+            Event::Width => Effects::widening(),
             Event::Approach | Event::Search | Event::Retract => Effects::setting(),
             Event::Clearance | Event::Compensation | Event::Qualification => Effects::setting(),
             Event::Untried | Event::Target => Effects::motion(),
@@ -234,6 +301,9 @@ impl Effects {
             Event::Frames | Event::Frame | Event::Saving | Event::Machine => Effects::frame(),
             Event::Angle | Event::Plane => Effects::plane(),
             Event::Bind | Event::Origins | Event::Origin => Effects::none(),
+            Event::DropFrame | Event::StoreFrame => Effects::frame(),
+            Event::DropFeature | Event::Remake => Effects::declaration(),
+            Event::Depth | Event::Unreported => Effects::none(),
             Event::CaseValue | Event::CaseBegins => Effects::none(),
             Event::Polar => Effects::none(),
             Event::PolarMotion => Effects::motion(),
@@ -288,6 +358,7 @@ impl Effects {
             Form::Configure(_, _) => Effects::setting(),
             Form::Shift(label, _) => Effects::of_shift(label),
             Form::Rotation(_, _, _) | Form::Restore(_) => Effects::frame(),
+            Form::Query(target, _, _, _) => Effects::of_assignment(target.name.as_bytes()),
             Form::Leap(_) => Effects::jump(),
             _ => Effects::none(),
         }
@@ -331,19 +402,63 @@ fn lose_motions(out: &mut Vec<Guarded>, line: u32, may: bool) -> Result<(), NoMe
     set_number(out, line, Carried::Single, 0)
 }
 
-// The state of the machine isn't known.
-#[tactic(auto, unfolding(crate::specs::Effects::lose_machine))]
-fn lose_machine(out: &mut Vec<Guarded>, line: u32, may: bool) -> Result<(), NoMemory>
-    ensures { OnOk result (out.new.items ≡ out.old.items ++ where_may may (lose_machine line)) }
+// The mode isn't known.
+#[tactic(auto, unfolding(crate::specs::Effects::lose_modes))]
+fn lose_modes(out: &mut Vec<Guarded>, line: u32, may: bool) -> Result<(), NoMemory>
+    ensures { OnOk result (out.new.items ≡ out.old.items ++ where_may may (lose_modes line)) }
 {
     if !may {
         return Ok(());
     }
     lose(out, line, Carried::Mode, Cause::Mode)?;
-    lose(out, line, Carried::Table, Cause::Table)?;
-    lose(out, line, Carried::Scanning, Cause::Scanning)?;
-    lose(out, line, Carried::Unit, Cause::Unit)?;
     lose(out, line, Carried::OwnPoints, Cause::Mode)
+}
+
+// A table may be turned.
+#[tactic(auto, unfolding(crate::specs::Effects::lose_tables))]
+fn lose_tables(out: &mut Vec<Guarded>, line: u32, may: bool) -> Result<(), NoMemory>
+    ensures { OnOk result (out.new.items ≡ out.old.items ++ where_may may (lose_tables line)) }
+{
+    if may {
+        lose(out, line, Carried::Table, Cause::Table)
+    } else {
+        Ok(())
+    }
+}
+
+// The machine may scan.
+#[tactic(auto, unfolding(crate::specs::Effects::lose_scans))]
+fn lose_scans(out: &mut Vec<Guarded>, line: u32, may: bool) -> Result<(), NoMemory>
+    ensures { OnOk result (out.new.items ≡ out.old.items ++ where_may may (lose_scans line)) }
+{
+    if may {
+        lose(out, line, Carried::Scanning, Cause::Scanning)
+    } else {
+        Ok(())
+    }
+}
+
+// Another unit may be in force.
+#[tactic(auto, unfolding(crate::specs::Effects::lose_units))]
+fn lose_units(out: &mut Vec<Guarded>, line: u32, may: bool) -> Result<(), NoMemory>
+    ensures { OnOk result (out.new.items ≡ out.old.items ++ where_may may (lose_units line)) }
+{
+    if may {
+        lose(out, line, Carried::Unit, Cause::Unit)
+    } else {
+        Ok(())
+    }
+}
+
+// The state of the machine that may be another one isn't known.
+#[tactic(auto, unfolding(crate::specs::Effects::lose_machine))]
+fn lose_machine(out: &mut Vec<Guarded>, line: u32, effects: Effects) -> Result<(), NoMemory>
+    ensures { OnOk result (out.new.items ≡ out.old.items ++ lose_machine line effects) }
+{
+    lose_modes(out, line, effects.modes)?;
+    lose_tables(out, line, effects.tables)?;
+    lose_scans(out, line, effects.scans)?;
+    lose_units(out, line, effects.units)
 }
 
 // Where the probe stands isn't, nor which sensor is selected.
@@ -356,6 +471,22 @@ fn lose_sensor(out: &mut Vec<Guarded>, line: u32, may: bool) -> Result<(), NoMem
     }
     set_number(out, line, Carried::Place, 0)?;
     set_number(out, line, Carried::Sensor, UNKNOWN_SENSOR)
+}
+
+// Another tip may be on, where one may have been put on.
+fn doubt_tip(out: &mut Vec<Guarded>, line: u32, may: bool) -> Result<(), NoMemory>
+    ensures { OnOk result (out.new.items ≡ out.old.items ++ where_may may (other_tip line)) }
+{
+    if may { tell_tip(out, line) } else { Ok(()) }
+}
+
+/// Another tip may be on.
+#[tactic(auto, unfolding(crate::specs::Effects::other_tip))]
+pub(crate) fn tell_tip(out: &mut Vec<Guarded>, line: u32) -> Result<(), NoMemory>
+    ensures { OnOk result (out.new.items ≡ out.old.items ++ other_tip line) }
+{
+    let asked = Form::Assignment(Carried::Asked.target(), truth(false));
+    remark(out, line, 0, asked, Remark::AnotherTip)
 }
 
 // The distances aren't.
@@ -456,8 +587,9 @@ fn lose_state(out: &mut Vec<Guarded>, line: u32, effects: Effects) -> Result<(),
     ensures { OnOk result (out.new.items ≡ out.old.items ++ lose_state line effects) }
 {
     lose_motions(out, line, effects.moves)?;
-    lose_machine(out, line, effects.machine)?;
+    lose_machine(out, line, effects)?;
     lose_sensor(out, line, effects.selects)?;
+    doubt_tip(out, line, effects.tips)?;
     lose_settings(out, line, effects.settings)
 }
 
@@ -508,8 +640,8 @@ pub(crate) fn lose_block(
         return go_to_end(out, line);
     }
     if effects.all {
-        untried(out, line)?;
-        return lose_all(alloc, out, line);
+        lose_all(alloc, out, line)?;
+        return untried(out, line);
     }
     lose_effects(alloc, out, line, effects, indices)
 }

@@ -11,8 +11,11 @@ ghost use Rattle.vcm_kept.specs.Guarding.{is_nothing, turns_machine, turns_state
 
 use crate::choices::{add_value, begin_block};
 use crate::datums::{begin_origins, straighten};
+use crate::effects::tell_tip;
+use crate::named::drop_frames;
 use crate::places::go_to_target;
 use crate::text::Text;
+use crate::values::leave_out;
 use crate::variables::assign;
 use std::alloc::Global;
 use vcm_events::{Event, pair};
@@ -255,10 +258,10 @@ fn end_point(alloc: Global, out: &mut Vec<Guarded>, line: u32) -> Result<(), NoM
 
 // What a statement does isn't known, nor anything behind it.
 fn lose_everything(alloc: Global, out: &mut Vec<Guarded>, line: u32) -> Result<(), NoMemory>
-    ensures { OnOk result (out.new.items ≡ out.old.items ++ untried line ∷ lose_all line) }
+    ensures { OnOk result (out.new.items ≡ out.old.items ++ lose_all line ++ untried line ∷ []) }
 {
-    untried(out, line)?;
-    lose_all(alloc, out, line)
+    lose_all(alloc, out, line)?;
+    untried(out, line)
 }
 
 /// Where a statement stands: whether within a measurement, and how deep the innermost block is.
@@ -286,7 +289,7 @@ fn happen(
     match event {
         Event::Mode => turn_machine(out, line, Carried::Mode, Cause::Mode, v),
         Event::Table => turn_machine(out, line, Carried::Table, Cause::Table, v),
-        Event::Scanning => turn_machine(out, line, Carried::Scanning, Cause::Scanning, v),
+        Event::Scanning => turn_state(out, line, Carried::Scanning, Cause::Scanning, v),
         Event::Unit => turn_state(out, line, Carried::Unit, Cause::Unit, v),
         Event::OwnPoints => turn_state(out, line, Carried::OwnPoints, Cause::Mode, v),
         Event::Approach => turn_state(out, line, Carried::Approach, Cause::Setting, v),
@@ -303,15 +306,13 @@ fn happen(
         Event::Untried => untried(out, line),
         Event::UntriedPoint => untried_point(alloc, out, line),
         Event::Values => raise(alloc, out, line, Carried::Values, 1),
-        Event::Features => raise(alloc, out, line, Carried::Features, FEATURES_STEP),
-        Event::Frames => set(
-            out,
-            line,
-            Carried::Floor,
-            Expr::leaf(Carried::Latest.term()),
-        ),
+        Event::Features | Event::DropFeature | Event::Remake => {
+            raise(alloc, out, line, Carried::Features, FEATURES_STEP)
+        }
+        Event::Frames | Event::DropFrame => drop_frames(out, line),
         Event::Frame => lose_frame(out, line),
-        Event::Saving => set_number(out, line, Carried::Saving, 0),
+        Event::Saving | Event::StoreFrame => set_number(out, line, Carried::Saving, 0),
+        Event::Width => tell_tip(out, line),
         Event::Machine => recall_machine(alloc, out, line, text.machine, text.datums),
         Event::Points => want_points(alloc, out, line, names, value),
         Event::Sensor => select_by(alloc, out, line, expansion, v),
@@ -320,7 +321,8 @@ fn happen(
         Event::Polar => begin_polar(alloc, out, line),
         Event::PolarMotion => end_motion(out, line),
         Event::PolarPoint => end_point(alloc, out, line),
-        Event::Bind | Event::Origin => Ok(()),
+        Event::Bind | Event::Origin | Event::Depth => Ok(()),
+        Event::Unreported => leave_out(out, line),
         Event::Origins => begin_origins(out, text.datums, line),
         Event::CaseValue => add_value(alloc, out, line, around.depth, v),
         Event::CaseBegins => begin_block(out, text.several, line, around.depth),

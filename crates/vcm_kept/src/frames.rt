@@ -7,14 +7,16 @@ ghost use Rattle.vcm_expr.specs.declared.typing.Want.TheVariants as wants;
 ghost use Rattle.vcm_forms.specs.declared.statement.Form.TheVariants as form;
 ghost use Rattle.vcm_remarks.specs.declared.remark.Cause.TheVariants as causes;
 ghost use Rattle.vcm_templates.specs.Templates.{asks, asks_all, where_known, stands, elsewhere, lose, know, ends, frame_gone};
-ghost use Rattle.vcm_kept.specs.Guarding.{carried_setting, configures, setting_where, declares_frame, made_where, found_in, has_shifts, has_shift, asks_shifts, shifts_in, shifts, origins_in, turn_asks, turns_in, recalls_at, recalled_where, with_known};
+ghost use Rattle.vcm_kept.specs.Guarding.{carried_setting, configures, setting_where, declares_frame, made_where, found_in, has_shifts, has_shift, asks_shifts, shifts_in, shifts, origins_in, turn_asks, turns_in, recalls_at, recalled_where, makes_frame, with_known};
 
 use crate::approaches::keep_setting;
 use crate::datums::{declare_axes, frame_asks, keep_axes, recall_axes, shifts_of, turn_axes};
+use crate::named::{declare_stored, keep_stored};
 use crate::places::{copied, length_asks};
 use crate::points::index_among;
+use crate::text::Text;
 use std::alloc::Global;
-use vcm_events::pair;
+use vcm_events::{are_origins, pair};
 use vcm_expr::{BinaryOp, Expr, Names, Relation, Want};
 use vcm_forms::{Form, Offset};
 use vcm_items::Name;
@@ -80,18 +82,19 @@ pub(crate) fn configure(
 fn declare_carried(
     alloc: Global,
     out: &mut Vec<Guarded>,
-    datums: bool,
+    text: Text,
     line: u32,
     index: u16,
     was: Option<u16>,
 ) -> Result<(), NoMemory>
-    ensures { OnOk result (out.new.items ≡ out.old.items ++ declares_frame datums line index was) }
+    ensures { OnOk result (out.new.items ≡ out.old.items ++ declares_frame text line index was) }
 {
     match was {
         Some(_) => Ok(()),
         None => {
             declare_item(alloc, out, line, Item::Saved, index)?;
-            declare_axes(alloc, out, datums, line, index)
+            declare_stored(alloc, out, text.saving, line, index)?;
+            declare_axes(alloc, out, text.datums, line, index)
         }
     }
 }
@@ -101,14 +104,15 @@ fn declare_carried(
 fn made_where(
     alloc: Global,
     out: &mut Vec<Guarded>,
-    datums: bool,
+    text: Text,
     line: u32,
     index: u16,
 ) -> Result<(), NoMemory>
-    ensures { OnOk result (out.new.items ≡ out.old.items ++ made_where datums line index) }
+    ensures { OnOk result (out.new.items ≡ out.old.items ++ made_where text line index) }
 {
     save_frame(alloc, out, line, index)?;
-    keep_axes(out, datums, line, index)?;
+    keep_stored(alloc, out, text.saving, line, index)?;
+    keep_axes(out, text.datums, line, index)?;
     elsewhere(out, line)?;
     frame_gone(out, line, Some(index))?;
     end(out, line)
@@ -153,6 +157,21 @@ fn has_shifts(alloc: Global, names: &Names, offsets: &[Offset]) -> Result<bool, 
     have_forms(alloc, names, offsets)
 }
 
+/// Whether a frame is made by these shifts.
+pub(crate) fn makes_frame(
+    alloc: Global,
+    names: &Names,
+    offsets: &[Offset],
+) -> Result<bool, NoMemory>
+    ensures { IfOk result (λ b. b ≡ makes_frame names.now offsets.now) }
+{
+    if are_origins(offsets) {
+        Ok(true)
+    } else {
+        has_shifts(alloc, names, offsets)
+    }
+}
+
 // What has to be known of the variables of shifts.
 fn ask_shifts(
     alloc: Global,
@@ -173,7 +192,7 @@ fn ask_shifts(
 fn shift_in(
     alloc: Global,
     out: &mut Vec<Guarded>,
-    datums: bool,
+    text: Text,
     line: u32,
     expansion: u32,
     names: &Names,
@@ -181,26 +200,26 @@ fn shift_in(
     label: Name,
     offsets: Items<Offset>,
 ) -> Result<(), NoMemory>
-    ensures put { OnOk result (out.new.items ≡ out.old.items ++ shifts_in datums line expansion names.now frames.old label offsets) }
+    ensures put { OnOk result (out.new.items ≡ out.old.items ++ shifts_in text line expansion names.now frames.old label offsets) }
     ensures frames { OnOk result (frames.new ≡ with_known frames.old label) }
 {
     let was = index_among(frames, &label);
     let Some(index) = entered(frames, &label)? else {
         return stand(out, line, expansion, Form::Shift(label, offsets));
     };
-    declare_carried(alloc, out, datums, line, index, was)?;
+    declare_carried(alloc, out, text, line, index, was)?;
     ask(out, line, length_asks(alloc)?)?;
     ask_shifts(alloc, out, line, names, offsets.as_slice())?;
     where_known(out, line)?;
     stand(out, line, expansion, Form::Shift(label, offsets))?;
-    made_where(alloc, out, datums, line, index)
+    made_where(alloc, out, text, line, index)
 }
 
 /// TRANS.
 pub(crate) fn shift(
     alloc: Global,
     out: &mut Vec<Guarded>,
-    datums: bool,
+    text: Text,
     line: u32,
     expansion: u32,
     names: &Names,
@@ -208,12 +227,12 @@ pub(crate) fn shift(
     label: Name,
     offsets: Items<Offset>,
 ) -> Result<(), NoMemory>
-    ensures put { OnOk result (out.new.items ≡ out.old.items ++ shifts datums line expansion names.now frames.old label offsets) }
+    ensures put { OnOk result (out.new.items ≡ out.old.items ++ shifts text line expansion names.now frames.old label offsets) }
     ensures frames { OnOk result (frames.new ≡ (if has_shifts names.now offsets then with_known frames.old label else frames.old)) }
 {
     if has_shifts(alloc, names, offsets.as_slice())? {
         shift_in(
-            alloc, out, datums, line, expansion, names, frames, label, offsets,
+            alloc, out, text, line, expansion, names, frames, label, offsets,
         )
     } else {
         frame_gone(out, line, index_among(frames, &label))
@@ -224,13 +243,14 @@ pub(crate) fn shift(
 pub(crate) fn originated(
     alloc: Global,
     out: &mut Vec<Guarded>,
+    text: Text,
     line: u32,
     expansion: u32,
     frames: &mut Titles,
     label: Name,
     offsets: &[Offset],
 ) -> Result<(), NoMemory>
-    ensures put { OnOk result (out.new.items ≡ out.old.items ++ origins_in line expansion frames.old label offsets.now) }
+    ensures put { OnOk result (out.new.items ≡ out.old.items ++ origins_in text line expansion frames.old label offsets.now) }
     ensures frames { OnOk result (frames.new ≡ with_known frames.old label) }
 {
     let shifts = shifts_of(alloc, offsets)?;
@@ -238,11 +258,11 @@ pub(crate) fn originated(
     let Some(index) = entered(frames, &label)? else {
         return stand(out, line, expansion, Form::Shift(label, shifts));
     };
-    declare_carried(alloc, out, true, line, index, was)?;
+    declare_carried(alloc, out, text, line, index, was)?;
     ask(out, line, frame_asks(alloc)?)?;
     where_known(out, line)?;
     stand(out, line, expansion, Form::Shift(label, shifts))?;
-    made_where(alloc, out, true, line, index)
+    made_where(alloc, out, text, line, index)
 }
 
 // What has to be known for a turn.
@@ -261,8 +281,7 @@ fn turn_asks(alloc: Global, angles: bool) -> Result<Expr, NoMemory>
 pub(crate) fn rotate(
     alloc: Global,
     out: &mut Vec<Guarded>,
-    angles: bool,
-    datums: bool,
+    text: Text,
     line: u32,
     expansion: u32,
     frames: &mut Titles,
@@ -270,19 +289,19 @@ pub(crate) fn rotate(
     axis: FrameAxis,
     turns: Quarters,
 ) -> Result<(), NoMemory>
-    ensures put { OnOk result (out.new.items ≡ out.old.items ++ turns_in angles datums line expansion frames.old label axis turns) }
+    ensures put { OnOk result (out.new.items ≡ out.old.items ++ turns_in text line expansion frames.old label axis turns) }
     ensures frames { OnOk result (frames.new ≡ with_known frames.old label) }
 {
     let was = index_among(frames, &label);
     let Some(index) = entered(frames, &label)? else {
         return stand(out, line, expansion, Form::Rotation(label, axis, turns));
     };
-    declare_carried(alloc, out, datums, line, index, was)?;
-    ask(out, line, turn_asks(alloc, angles)?)?;
+    declare_carried(alloc, out, text, line, index, was)?;
+    ask(out, line, turn_asks(alloc, text.polar)?)?;
     where_known(out, line)?;
     stand(out, line, expansion, Form::Rotation(label, axis, turns))?;
-    turn_axes(out, datums, line)?;
-    made_where(alloc, out, datums, line, index)
+    turn_axes(out, text.datums, line)?;
+    made_where(alloc, out, text, line, index)
 }
 
 // Behind a frame that is recalled it is the current one, elsewhere this isn't known.

@@ -1,6 +1,6 @@
 //! What each statement of an expanded text is put as, behind those above it.
 
-ghost use Rattle.std.specs.Prelude.{◌≡◌, ◌++◌, ◌∷◌, [], map, pos, Some, None, true, not, OnOk, IfOk, List};
+ghost use Rattle.std.specs.Prelude.{◌≡◌, ◌++◌, ◌∷◌, [], map, pos, Some, None, true, false, not, OnOk, IfOk, List};
 ghost use Rattle.std.specs.List.{list_any};
 ghost use Rattle.vcm_templates.specs.Carried.{carried_name};
 ghost use Rattle.std.specs.Prelude.{ℕ};
@@ -11,10 +11,11 @@ ghost use Rattle.vcm_expr.specs.Source.{leaf_in};
 ghost use Rattle.vcm_events.specs.Events.{event_named};
 ghost use Rattle.vcm_events.specs.Spots.{spot_named, slanted_name};
 ghost use Rattle.vcm_kept.specs.Effects.{listed_index};
-ghost use Rattle.vcm_kept.specs.Guarding.{spots_by, features_or, shifts_or, reaches_spot, reaches_feature, reaches_shift, spot_in, is_spotted, is_from, is_step, is_slanted_placed, has_several, is_pointed_placed, are_three, is_polar_event, is_polar_placed, opens_polar, around, is_several_placed, is_datum_event, is_dated_placed, block, opened, noted, reaches_form, begun, guards, reaches, guards_from, is_jump_placed, names_machine_placed, first_names, last_names, text_of, opens, declares_carried, keeps_machine, opening, declares_first, opens_first, guarded, measures, measured, first_variables};
+ghost use Rattle.vcm_kept.specs.Guarding.{spots_by, features_or, shifts_or, reaches_spot, reaches_feature, reaches_shift, spot_in, is_spotted, is_from, is_step, is_slanted_placed, has_several, is_pointed_placed, are_three, is_polar_event, is_polar_placed, opens_polar, around, is_several_placed, first_block, doubted, branched, left, measuring_from, is_aimed, late_shift, late_place, late_touch, late_end, late_value, late_report, lates, guards_late, is_datum_event, is_dated_placed, is_storing_event, is_storing_placed, block, opened, noted, reaches_form, begun, guards, reaches, guards_from, is_jump_placed, names_machine_placed, first_names, last_names, text_of, opens, declares_carried, keeps_machine, opening, declares_first, opens_first, guarded, measures, measured, first_variables};
+ghost use Rattle.vcm_kept.specs.inner.Making.{made_of};
 ghost use Rattle.vcm_kept.specs.Choices.{next_depth};
 ghost use Rattle.vcm_kept.specs.Exactly.{exact_form, is_cut_placed};
-ghost use Rattle.vcm_kept.specs.inner.Reaching.{reached, is_block, is_other, is_state};
+ghost use Rattle.vcm_kept.specs.inner.Reaching.{reached, is_block, is_other, is_state, passing_of, passes};
 
 use crate::approaches::{declare_kept, declare_slanted, slant_or};
 use crate::blocks::{
@@ -27,12 +28,13 @@ use crate::datums::declare_datums;
 use crate::effects::{Effects, set_by};
 use crate::events::{Around, assign_or, is_nothing, machine_name};
 use crate::exactly::{exact_form, has_cut};
-use crate::frames::{configure, originated, recall, rotate, shift};
-use crate::places::{go_home, go_to, keep, step_by};
+use crate::frames::{configure, makes_frame, originated, recall, rotate, shift};
+use crate::late::{Made, is_late, is_late_variable, late_feature, late_frame, late_variable};
+use crate::places::{go_home, go_to, has_place, keep, step_by};
 use crate::points::{declare, end_measure, measure, measured_index, touch};
 use crate::reached::{OpenBlock, begin_block, note_effects};
 use crate::text::Text;
-use crate::values::{query, report};
+use crate::values::{leave_out, query, report};
 use crate::variables::declare_all;
 use std::alloc::Global;
 use std::mem::replace;
@@ -53,6 +55,8 @@ pub(crate) struct Above {
     pub(crate) names: Names,
     pub(crate) frames: Titles,
     pub(crate) features: Titles,
+    pub(crate) within: bool,
+    pub(crate) since: usize,
     pub(crate) measuring: Option<Name>,
     pub(crate) aiming: bool,
     pub(crate) assigned: Vec<u16>,
@@ -71,6 +75,31 @@ fn open_block(above: &mut Above, line: u32, index: Option<u16>)
         effects: Effects::none(),
     };
     begin_block(&mut above.blocks, block);
+}
+
+// It isn't sure any more which feature is measured.
+fn doubt(above: &mut Above)
+    ensures { reached above.new ≡ doubted (reached above.old) }
+{
+    drop(replace(&mut above.measuring, None));
+}
+
+// The same behind another branch of a block in which the measurement begins.
+fn branch(above: &mut Above)
+    ensures { reached above.new ≡ branched (reached above.old) }
+{
+    if above.since >= above.blocks.len() {
+        doubt(above);
+    }
+}
+
+// The innermost block ends.
+fn leave_block(above: &mut Above) -> Option<OpenBlock>
+    ensures block { result ≡ first_block above.old.blocks }
+    ensures above { reached above.new ≡ left (reached above.old) }
+{
+    branch(above);
+    end_block(&mut above.blocks)
 }
 
 // A statement that opens a block, goes on with one or closes one.
@@ -116,16 +145,16 @@ fn guard_block(
             Ok(())
         }
         Form::RepeatEnd => {
-            let block = end_block(&mut above.blocks);
+            let block = leave_block(above);
             end_repeat(alloc, out, line, expansion, block, &above.assigned)
         }
         Form::ChooseEnd => {
-            let block = end_block(&mut above.blocks);
+            let block = leave_block(above);
             let form = choice_end(text.several);
             end_choice(alloc, out, line, expansion, block, &above.assigned, form)
         }
         form => {
-            let block = end_block(&mut above.blocks);
+            let block = leave_block(above);
             end_choice(alloc, out, line, expansion, block, &above.assigned, form)
         }
     }
@@ -139,6 +168,69 @@ fn is_block(form: &Form) -> bool
         Form::Test(_) | Form::TestEnd | Form::Choose(_) | Form::ChooseEnd => true,
         Form::Repeat(_) | Form::RepeatEnd => true,
         _ => false,
+    }
+}
+
+/// What a statement that opens no block and closes none does to what stands above.
+#[derive(Clone, Copy)]
+pub enum Passing {
+    /// Another branch of a block begins, or one ends.
+    Branch,
+    /// A label, to which control may come from elsewhere.
+    Label,
+    /// Nothing.
+    Nothing,
+}
+
+// What such a statement does.
+fn passing_of(form: &Form) -> Passing
+    ensures { result ≡ passing_of form.now }
+{
+    match form {
+        Form::Case(_) | Form::Default | Form::CaseEnd | Form::Otherwise => Passing::Branch,
+        Form::Mark(_) => Passing::Label,
+        _ => Passing::Nothing,
+    }
+}
+
+// The same is done.
+fn pass(above: &mut Above, passing: Passing)
+    ensures { reached above.new ≡ passes passing (reached above.old) }
+{
+    match passing {
+        Passing::Branch => branch(above),
+        Passing::Label => doubt(above),
+        Passing::Nothing => {}
+    }
+}
+
+// What a statement about blocks is put as, or one that stands as it is.
+fn put_other(
+    alloc: Global,
+    out: &mut Vec<Guarded>,
+    text: Text,
+    above: &Above,
+    line: u32,
+    expansion: u32,
+    form: Form,
+) -> Result<(), NoMemory>
+    requires other { is_other form ≡ true }
+    requires block { is_block form ≡ false }
+    ensures { OnOk result (out.new.items ≡ out.old.items ++ guards text (reached above.now) line expansion form) }
+{
+    let several = text.several;
+    match form {
+        Form::Case(value) => {
+            let depth = inner_depth(&above.blocks);
+            begin_case(alloc, out, several, line, expansion, depth, value)
+        }
+        Form::Default => {
+            let depth = inner_depth(&above.blocks);
+            begin_default(alloc, out, several, line, expansion, depth)
+        }
+        Form::CaseEnd => end_case(out, several, line, expansion),
+        Form::Ending => end_program(out, line, expansion, text.jumps),
+        form => stand(out, line, expansion, form),
     }
 }
 
@@ -159,20 +251,10 @@ fn guard_other(
     if is_block(&form) {
         return guard_block(alloc, out, text, above, line, expansion, form);
     }
-    let several = text.several;
-    match form {
-        Form::Case(value) => {
-            let depth = inner_depth(&above.blocks);
-            begin_case(alloc, out, several, line, expansion, depth, value)
-        }
-        Form::Default => {
-            let depth = inner_depth(&above.blocks);
-            begin_default(alloc, out, several, line, expansion, depth)
-        }
-        Form::CaseEnd => end_case(out, several, line, expansion),
-        Form::Ending => end_program(out, line, expansion, text.jumps),
-        form => stand(out, line, expansion, form),
-    }
+    let passing = passing_of(&form);
+    put_other(alloc, out, text, above, line, expansion, form)?;
+    pass(above, passing);
+    Ok(())
 }
 
 // TRANS, or a slanted point.
@@ -199,6 +281,7 @@ fn guard_shift(
         return originated(
             alloc,
             out,
+            text,
             line,
             expansion,
             frames,
@@ -210,7 +293,7 @@ fn guard_shift(
     shift(
         alloc,
         out,
-        text.datums,
+        text,
         line,
         expansion,
         names,
@@ -244,10 +327,7 @@ fn guard_state(
         }
         Form::Rotation(label, axis, turns) => {
             let frames = &mut above.frames;
-            let (polar, datums) = (text.polar, text.datums);
-            rotate(
-                alloc, out, polar, datums, line, e, frames, label, axis, turns,
-            )
+            rotate(alloc, out, text, line, e, frames, label, axis, turns)
         }
         Form::Restore(label) => {
             let frames = &above.frames;
@@ -255,8 +335,9 @@ fn guard_state(
         }
         Form::Query(target, side, label, word) => {
             let (names, features) = (&above.names, &above.features);
+            let (datums, frames) = (text.datums, &above.frames);
             query(
-                alloc, out, line, e, names, features, target, side, label, word,
+                alloc, out, datums, line, e, names, features, frames, target, side, label, word,
             )
         }
         Form::Report(side, label) => { report(alloc, out, line, e, &above.features, side, label) }
@@ -272,10 +353,12 @@ fn begin_measure(
     label: Name,
 ) -> Result<(), NoMemory>
     ensures put { OnOk result (out.new.items ≡ out.old.items ++ measures line) }
-    ensures above { OnOk result (reached above.new ≡ record (reached above.old) { measuring = Some label }) }
+    ensures above { OnOk result (reached above.new ≡ measuring_from (reached above.old) label) }
 {
     measure(out, line)?;
     drop(replace(&mut above.measuring, Some(label)));
+    above.within = true;
+    above.since = above.blocks.len();
     Ok(())
 }
 
@@ -288,10 +371,11 @@ fn finish_measure(
     above: &mut Above,
 ) -> Result<(), NoMemory>
     ensures put { OnOk result (out.new.items ≡ out.old.items ++ measured datums line above.old.features above.old.measuring) }
-    ensures above { OnOk result (reached above.new ≡ record (reached above.old) { measuring = None }) }
+    ensures above { OnOk result (reached above.new ≡ record (reached above.old) { within = false; measuring = None }) }
 {
     end_measure(alloc, out, datums, line, &above.features, &above.measuring)?;
     drop(replace(&mut above.measuring, None));
+    above.within = false;
     Ok(())
 }
 
@@ -327,12 +411,19 @@ fn guard_assignment(
     Ok(())
 }
 
+// Whether a GOTARG may be open: in writing, or by a jump.
+fn is_aimed(text: Text, above: &Above) -> bool
+    ensures { result ≡ is_aimed text (reached above.now) }
+{
+    above.aiming || (text.jumps && text.spots)
+}
+
 // Where a statement stands.
 fn around(above: &Above) -> Around
     ensures { result ≡ around (reached above.now) }
 {
     Around {
-        measuring: above.measuring.is_some(),
+        measuring: above.within,
         depth: inner_depth(&above.blocks),
     }
 }
@@ -341,13 +432,14 @@ fn around(above: &Above) -> Around
 fn guard_spot(
     alloc: Global,
     out: &mut Vec<Guarded>,
+    aiming: bool,
     measuring: bool,
     line: u32,
     names: &Names,
     place: &Coordinates,
     spot: Spot,
 ) -> Result<(), NoMemory>
-    ensures { OnOk result (out.new.items ≡ out.old.items ++ spots_by measuring line names.now place.now spot) }
+    ensures { OnOk result (out.new.items ≡ out.old.items ++ spots_by aiming measuring line names.now place.now spot) }
 {
     match spot {
         Spot::Home => {
@@ -355,8 +447,26 @@ fn guard_spot(
             lose(out, line, Carried::Home, Cause::Value)
         }
         Spot::Target => keep(alloc, out, line, names, Kept::Target, place),
-        Spot::Step => step_by(alloc, out, measuring, line, names, BinaryOp::Add, place),
-        Spot::Back => step_by(alloc, out, measuring, line, names, BinaryOp::Sub, place),
+        Spot::Step => step_by(
+            alloc,
+            out,
+            aiming,
+            measuring,
+            line,
+            names,
+            BinaryOp::Add,
+            place,
+        ),
+        Spot::Back => step_by(
+            alloc,
+            out,
+            aiming,
+            measuring,
+            line,
+            names,
+            BinaryOp::Sub,
+            place,
+        ),
     }
 }
 
@@ -386,8 +496,9 @@ fn guard_feature(
     ensures above { OnOk result (reached above.new ≡ reaches_feature (reached above.old) label place (spot_named label)) }
 {
     if let Some(spot) = Spot::named(label.as_bytes()) {
-        let measuring = above.measuring.is_some();
-        guard_spot(alloc, out, measuring, line, &above.names, &place, spot)?;
+        let (aiming, measuring) = (is_aimed(text, above), above.within);
+        let names = &above.names;
+        guard_spot(alloc, out, aiming, measuring, line, names, &place, spot)?;
         aim(above, spot);
         return Ok(());
     }
@@ -431,15 +542,16 @@ fn guard(
             guard_assignment(alloc, out, text, above, line, e, target, value)
         }
         Form::Move(place) => {
-            let (aiming, measuring) = (above.aiming, above.measuring.is_some());
+            let (aiming, measuring) = (is_aimed(text, above), above.within);
             let names = &above.names;
             go_to(
                 alloc, out, text.steps, line, e, names, aiming, measuring, place,
             )
         }
         Form::Home => {
-            let measuring = above.measuring.is_some();
-            go_home(alloc, out, text.from, text.steps, measuring, line, e)
+            let (aiming, measuring) = (is_aimed(text, above), above.within);
+            let (from, steps) = (text.from, text.steps);
+            go_home(alloc, out, from, steps, aiming, measuring, line, e)
         }
         Form::Feature(label, place, axis) => {
             guard_feature(alloc, out, text, above, line, e, label, place, axis)
@@ -476,15 +588,147 @@ fn note(above: &mut Above, effects: Effects, index: Option<u16>) -> Result<(), N
     Ok(())
 }
 
+// A shift that makes no frame, of one that is made below alone.
+fn guard_late_shift(
+    alloc: Global,
+    out: &mut Vec<Guarded>,
+    made: &Made,
+    above: &Above,
+    line: u32,
+    label: &Name,
+    offsets: &[Offset],
+) -> Result<(), NoMemory>
+    ensures { OnOk result (out.new.items ≡ out.old.items ++ late_shift (made_of made.now) (reached above.now) line label.now offsets.now) }
+{
+    if slanted_name() == *label || makes_frame(alloc, &above.names, offsets)? {
+        return Ok(());
+    }
+    late_frame(out, line, is_late(&above.frames, &made.frames, label))
+}
+
+// A FEAT without a place, of a feature that is declared below alone.
+fn guard_late_place(
+    alloc: Global,
+    out: &mut Vec<Guarded>,
+    made: &Made,
+    above: &Above,
+    line: u32,
+    label: &Name,
+    place: &Coordinates,
+) -> Result<(), NoMemory>
+    ensures { OnOk result (out.new.items ≡ out.old.items ++ late_place (made_of made.now) (reached above.now) line label.now place.now (spot_named label.now)) }
+{
+    if Spot::named(label.as_bytes()).is_some() || has_place(alloc, &above.names, place)? {
+        return Ok(());
+    }
+    let late = is_late(&above.features, &made.features, label);
+    late_feature(alloc, out, line, late)
+}
+
+// The end of a measurement of such a feature, or of one that isn't sure.
+fn guard_late_end(
+    alloc: Global,
+    out: &mut Vec<Guarded>,
+    made: &Made,
+    above: &Above,
+    line: u32,
+) -> Result<(), NoMemory>
+    ensures { OnOk result (out.new.items ≡ out.old.items ++ late_end (made_of made.now) (reached above.now) line above.now.measuring) }
+{
+    let late = match &above.measuring {
+        None => true,
+        Some(label) => is_late(&above.features, &made.features, label),
+    };
+    late_feature(alloc, out, line, late)
+}
+
+// A point of a feature that is declared below alone.
+fn guard_late_touch(
+    alloc: Global,
+    out: &mut Vec<Guarded>,
+    made: &Made,
+    above: &Above,
+    line: u32,
+) -> Result<(), NoMemory>
+    ensures { OnOk result (out.new.items ≡ out.old.items ++ late_touch (made_of made.now) (reached above.now) line above.now.measuring) }
+{
+    match &above.measuring {
+        None => Ok(()),
+        Some(label) => {
+            let late = is_late(&above.features, &made.features, label);
+            late_feature(alloc, out, line, late)
+        }
+    }
+}
+
+// A value for a variable that is declared below alone.
+fn guard_late_value(
+    alloc: Global,
+    out: &mut Vec<Guarded>,
+    made: &Made,
+    above: &Above,
+    line: u32,
+    target: &Target,
+) -> Result<(), NoMemory>
+    ensures { OnOk result (out.new.items ≡ out.old.items ++ late_value (made_of made.now) (reached above.now) line target.now (event_named target.now.name)) }
+{
+    match Event::named(target.name.as_bytes()) {
+        Some(_) => Ok(()),
+        None => {
+            let late = is_late_variable(&above.names, &made.variables, target);
+            late_variable(alloc, out, line, late)
+        }
+    }
+}
+
+// Output of a feature that is declared below alone.
+fn guard_late_report(out: &mut Vec<Guarded>, line: u32, late: bool) -> Result<(), NoMemory>
+    ensures { OnOk result (out.new.items ≡ out.old.items ++ late_report line late) }
+{
+    if late { leave_out(out, line) } else { Ok(()) }
+}
+
+// What isn't known any more before a statement that is about something that is made below alone.
+fn guard_late(
+    alloc: Global,
+    out: &mut Vec<Guarded>,
+    made: &Made,
+    above: &Above,
+    line: u32,
+    form: &Form,
+) -> Result<(), NoMemory>
+    ensures { OnOk result (out.new.items ≡ out.old.items ++ lates (made_of made.now) (reached above.now) line form.now) }
+{
+    match form {
+        Form::Shift(label, offsets) => {
+            guard_late_shift(alloc, out, made, above, line, label, offsets.as_slice())
+        }
+        Form::Feature(label, place, _) => {
+            guard_late_place(alloc, out, made, above, line, label, place)
+        }
+        Form::Touch(_, _) => guard_late_touch(alloc, out, made, above, line),
+        Form::MeasureEnd => guard_late_end(alloc, out, made, above, line),
+        Form::Assignment(target, _) | Form::Query(target, _, _, _) => {
+            guard_late_value(alloc, out, made, above, line, target)
+        }
+        Form::Report(_, label) => {
+            let late = is_late(&above.features, &made.features, label);
+            guard_late_report(out, line, late)
+        }
+        _ => Ok(()),
+    }
+}
+
 // One statement more.
 fn guard_placed(
     alloc: Global,
     out: &mut Vec<Guarded>,
     text: Text,
+    made: &Made,
     above: &mut Above,
     placed: Placed,
 ) -> Result<(), NoMemory>
-    ensures put { OnOk result (out.new.items ≡ out.old.items ++ guards text (reached above.old) placed.statement.line placed.expansion (exact_form above.old.names placed.statement.form)) }
+    ensures put { OnOk result (out.new.items ≡ out.old.items ++ guards_late text (made_of made.now) (reached above.old) placed.statement.line placed.expansion (exact_form above.old.names placed.statement.form)) }
     ensures above { OnOk result (reached above.new ≡ reaches (reached above.old) placed.statement.line placed.expansion (exact_form above.old.names placed.statement.form)) }
 {
     let line = placed.statement.line;
@@ -492,6 +736,7 @@ fn guard_placed(
     let form = exact_form(alloc, &above.names, placed.statement.form)?;
     let effects = Effects::of(&form);
     let index = set_by(&above.names, &form);
+    guard_late(alloc, out, made, above, line, &form)?;
     guard(alloc, out, text, above, line, expansion, form)?;
     note(above, effects, index)
 }
@@ -501,13 +746,14 @@ fn guard_all(
     alloc: Global,
     out: &mut Vec<Guarded>,
     text: Text,
+    made: &Made,
     above: &mut Above,
     all: Vec<Placed>,
 ) -> Result<(), NoMemory>
-    ensures { OnOk result (out.new.items ≡ out.old.items ++ guards_from text (reached above.old) all.items) }
+    ensures { OnOk result (out.new.items ≡ out.old.items ++ guards_from text (made_of made.now) (reached above.old) all.items) }
 {
     for placed in all {
-        guard_placed(alloc, out, text, above, placed)?;
+        guard_placed(alloc, out, text, made, above, placed)?;
     }
     Ok(())
 }
@@ -717,6 +963,28 @@ fn is_several(placed: &Placed) -> bool
     }
 }
 
+// Whether a statement keeps a frame elsewhere.
+fn is_storing(placed: &Placed) -> bool
+    ensures { result ≡ is_storing_placed placed.now }
+{
+    match &placed.statement.form {
+        Form::Query(target, _, _, _) => {
+            matches!(
+                Event::named(target.name.as_bytes()),
+                Some(Event::StoreFrame)
+            )
+        }
+        _ => false,
+    }
+}
+
+// Whether one of the statements does.
+fn has_storing(all: &[Placed]) -> bool
+    ensures { result ≡ list_any is_storing_placed all.now }
+{
+    all.iter().any(|placed| is_storing(placed))
+}
+
 // Whether one of the statements does.
 fn has_several_values(all: &[Placed]) -> bool
     ensures { result ≡ list_any is_several_placed all.now }
@@ -738,6 +1006,7 @@ fn text_of(all: &[Placed]) -> Text
         pointed: has_pointed(all),
         polar: has_polar(all),
         datums: has_datums(all),
+        saving: has_storing(all),
         several: has_several_values(all),
         cut: has_cut(all),
     }
@@ -900,6 +1169,8 @@ fn nothing_above(alloc: Global, names: Names) -> Above
         names,
         frames: Titles::new(alloc),
         features: Titles::new(alloc),
+        within: false,
+        since: 0,
         measuring: None,
         aiming: false,
         assigned: Vec::new(alloc),
@@ -938,11 +1209,12 @@ pub(crate) fn guarded(alloc: Global, all: Vec<Placed>) -> Result<Vec<Guarded>, N
     ensures { IfOk result (λ gs. gs.items ≡ guarded all.items) }
 {
     let text = text_of(&all);
+    let made = Made::of(alloc, &all)?;
     let mut out = Vec::new(alloc);
     declare_first(alloc, &mut out, text)?;
     open_first(alloc, &mut out, text)?;
     let names = first_variables(alloc, text.cut)?;
     let mut above = nothing_above(alloc, names);
-    guard_all(alloc, &mut out, text, &mut above, all)?;
+    guard_all(alloc, &mut out, text, &made, &mut above, all)?;
     Ok(out)
 }

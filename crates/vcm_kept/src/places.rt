@@ -54,12 +54,7 @@ pub(crate) fn ask_place(
 pub(crate) fn motion_asks(alloc: Global) -> Result<Expr, NoMemory>
     ensures { IfOk result (λ e. e ≡ motion_asks) }
 {
-    let all = [
-        Carried::Mode,
-        Carried::Table,
-        Carried::Scanning,
-        Carried::Unit,
-    ];
+    let all = [Carried::Mode, Carried::Table, Carried::Unit];
     let state = are_current(alloc, &all)?;
     both(alloc, &knows_frame(alloc)?, &state)
 }
@@ -70,6 +65,7 @@ pub(crate) fn point_asks(alloc: Global) -> Result<Expr, NoMemory>
     ensures { IfOk result (λ e. e ≡ point_asks) }
 {
     let all = [
+        Carried::Scanning,
         Carried::OwnPoints,
         Carried::Approach,
         Carried::Search,
@@ -88,6 +84,7 @@ pub(crate) fn approach_asks(alloc: Global) -> Result<Expr, NoMemory>
     ensures { IfOk result (λ e. e ≡ approach_asks) }
 {
     let all = [
+        Carried::Scanning,
         Carried::OwnPoints,
         Carried::Approach,
         Carried::Retract,
@@ -125,11 +122,10 @@ pub(crate) fn ask_point(
     go(alloc, out, line)
 }
 
-// What has to be known for a motion, behind GOTARG.
-fn aimed_asks(alloc: Global, aiming: bool) -> Result<Expr, NoMemory>
-    ensures { IfOk result (λ e. e ≡ aimed aiming motion_asks) }
+// What has to be known behind GOTARG, beside this.
+fn aimed(alloc: Global, aiming: bool, asked: Expr) -> Result<Expr, NoMemory>
+    ensures { IfOk result (λ e. e ≡ aimed aiming asked) }
 {
-    let asked = motion_asks(alloc)?;
     if aiming {
         both(alloc, &asked, &is_current(alloc, Carried::OwnPoints)?)
     } else {
@@ -137,12 +133,14 @@ fn aimed_asks(alloc: Global, aiming: bool) -> Result<Expr, NoMemory>
     }
 }
 
-// Within a measurement the machine may go over a clearance surface first.
+// Within a measurement the machine may go over a clearance surface first, or scan.
 fn within(alloc: Global, measuring: bool, asked: Expr) -> Result<Expr, NoMemory>
     ensures { IfOk result (λ e. e ≡ within measuring asked) }
 {
     if measuring {
-        both(alloc, &asked, &is_current(alloc, Carried::Clearance)?)
+        let all = [Carried::Scanning, Carried::OwnPoints, Carried::Clearance];
+        let state = are_current(alloc, &all)?;
+        both(alloc, &asked, &state)
     } else {
         Ok(asked)
     }
@@ -329,7 +327,7 @@ fn go_known(
 ) -> Result<(), NoMemory>
     ensures { OnOk result (out.new.items ≡ out.old.items ++ moves_known steps line expansion names.now aiming measuring place) }
 {
-    let asked = within(alloc, measuring, aimed_asks(alloc, aiming)?)?;
+    let asked = within(alloc, measuring, aimed(alloc, aiming, motion_asks(alloc)?)?)?;
     ask_point(alloc, out, line, names, asked, &place)?;
     go_and_track(alloc, out, steps, line, expansion, place)?;
     gone(out, line)
@@ -363,13 +361,7 @@ pub(crate) fn go_to(
 fn home_asks(alloc: Global) -> Result<Expr, NoMemory>
     ensures { IfOk result (λ e. e ≡ home_asks) }
 {
-    let all = [
-        Carried::Mode,
-        Carried::Table,
-        Carried::Scanning,
-        Carried::Home,
-    ];
-    are_current(alloc, &all)
+    are_current(alloc, &[Carried::Mode, Carried::Table, Carried::Home])
 }
 
 // The way to the home of the part.
@@ -378,13 +370,15 @@ fn go_to_home(
     alloc: Global,
     out: &mut Vec<Guarded>,
     steps: bool,
+    aiming: bool,
     measuring: bool,
     line: u32,
     expansion: u32,
 ) -> Result<(), NoMemory>
-    ensures { OnOk result (out.new.items ≡ out.old.items ++ goes_home steps measuring line expansion) }
+    ensures { OnOk result (out.new.items ≡ out.old.items ++ goes_home steps aiming measuring line expansion) }
 {
-    ask(out, line, within(alloc, measuring, home_asks(alloc)?)?)?;
+    let asked = aimed(alloc, aiming, home_asks(alloc)?)?;
+    ask(out, line, within(alloc, measuring, asked)?)?;
     go(alloc, out, line)?;
     stand(out, line, expansion, Form::Home)?;
     lose_track(out, steps, line)?;
@@ -397,19 +391,21 @@ pub(crate) fn go_home(
     out: &mut Vec<Guarded>,
     from: bool,
     steps: bool,
+    aiming: bool,
     measuring: bool,
     line: u32,
     expansion: u32,
 ) -> Result<(), NoMemory>
-    ensures { OnOk result (out.new.items ≡ out.old.items ++ homes from steps measuring line expansion) }
+    ensures { OnOk result (out.new.items ≡ out.old.items ++ homes from steps aiming measuring line expansion) }
 {
     if !from {
-        return go_to_home(alloc, out, steps, measuring, line, expansion);
+        return go_to_home(alloc, out, steps, aiming, measuring, line, expansion);
     }
     stand(out, line, 0, Form::Test(is_current(alloc, Carried::Home)?))?;
-    go_to_home(alloc, out, steps, measuring, line, expansion)?;
+    go_to_home(alloc, out, steps, aiming, measuring, line, expansion)?;
     elsewhere(out, line)?;
-    let asked = within(alloc, measuring, motion_asks(alloc)?)?;
+    let asked = aimed(alloc, aiming, motion_asks(alloc)?)?;
+    let asked = within(alloc, measuring, asked)?;
     go_to_kept(alloc, out, steps, line, Kept::Home, &asked)?;
     end(out, line)
 }
@@ -426,7 +422,7 @@ pub(crate) fn go_to_target(
     ensures { OnOk result (out.new.items ≡ out.old.items ++ reaches_target spots steps measuring line) }
 {
     if spots {
-        let asked = within(alloc, measuring, aimed_asks(alloc, true)?)?;
+        let asked = within(alloc, measuring, aimed(alloc, true, motion_asks(alloc)?)?)?;
         go_to_kept(alloc, out, steps, line, Kept::Target, &asked)
     } else {
         untried(out, line)
@@ -476,15 +472,17 @@ fn step_asks(alloc: Global) -> Result<Expr, NoMemory>
 fn step_known(
     alloc: Global,
     out: &mut Vec<Guarded>,
+    aiming: bool,
     measuring: bool,
     line: u32,
     names: &Names,
     step: &Coordinates,
     place: Coordinates,
 ) -> Result<(), NoMemory>
-    ensures { OnOk result (out.new.items ≡ out.old.items ++ steps_known measuring line names.now step.now place) }
+    ensures { OnOk result (out.new.items ≡ out.old.items ++ steps_known aiming measuring line names.now step.now place) }
 {
-    let asked = within(alloc, measuring, step_asks(alloc)?)?;
+    let asked = aimed(alloc, aiming, step_asks(alloc)?)?;
+    let asked = within(alloc, measuring, asked)?;
     ask_point(alloc, out, line, names, asked, step)?;
     go_and_track(alloc, out, true, line, 0, place)?;
     gone(out, line)
@@ -494,19 +492,20 @@ fn step_known(
 pub(crate) fn step_by(
     alloc: Global,
     out: &mut Vec<Guarded>,
+    aiming: bool,
     measuring: bool,
     line: u32,
     names: &Names,
     op: BinaryOp,
     step: &Coordinates,
 ) -> Result<(), NoMemory>
-    ensures { OnOk result (out.new.items ≡ out.old.items ++ steps_by measuring line names.now op step.now) }
+    ensures { OnOk result (out.new.items ≡ out.old.items ++ steps_by aiming measuring line names.now op step.now) }
 {
     if !has_place(alloc, names, step)? {
         return untried(out, line);
     }
     match step_place(alloc, op, step)? {
-        Some(place) => step_known(alloc, out, measuring, line, names, step, place),
+        Some(place) => step_known(alloc, out, aiming, measuring, line, names, step, place),
         None => untried(out, line),
     }
 }

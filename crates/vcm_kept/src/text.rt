@@ -21,6 +21,8 @@ pub struct Text {
     pub polar: bool,
     /// It has datums, or frames by them.
     pub datums: bool,
+    /// It keeps frames elsewhere.
+    pub saving: bool,
     /// One of its CASEs has several values.
     pub several: bool,
     /// It has values that may be cut off.

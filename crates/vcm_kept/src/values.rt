@@ -7,6 +7,7 @@ ghost use Rattle.vcm_kept.specs.Guarding.{is_here, obtains_by, obtains_here, que
 ghost use Rattle.vcm_events.specs.Events.{event_named};
 
 use crate::datums::{bind, originate};
+use crate::named::{drop_feature, drop_frame, remake_feature, store_frame};
 use crate::places::length_asks;
 use crate::points::{index_among, is_measured, is_nominal};
 use crate::variables::{lose_variable, otherwise_lose};
@@ -86,32 +87,38 @@ fn obtain(
     }
 }
 
-/// OBTAIN, or a statement about a datum.
+/// OBTAIN, or a statement about a datum, or what happens to a feature or a frame by its name.
 pub(crate) fn query(
     alloc: Global,
     out: &mut Vec<Guarded>,
+    datums: bool,
     line: u32,
     expansion: u32,
     names: &Names,
     declared: &Titles,
+    frames: &Titles,
     target: Target,
     side: Source,
     label: Name,
     word: FeatureWord,
 ) -> Result<(), NoMemory>
-    ensures { OnOk result (out.new.items ≡ out.old.items ++ queries line expansion names.now declared.now target side label word (event_named target.name)) }
+    ensures { OnOk result (out.new.items ≡ out.old.items ++ queries datums line expansion names.now declared.now frames.now target side label word (event_named target.name)) }
 {
     match Event::named(target.name.as_bytes()) {
         Some(Event::Bind) => bind(out, line, declared, &label),
         Some(Event::Origin) => originate(alloc, out, line, expansion, declared, label, word),
+        Some(Event::DropFeature) => drop_feature(alloc, out, datums, line, declared, &label),
+        Some(Event::Remake) => remake_feature(alloc, out, datums, line, declared, &label),
+        Some(Event::DropFrame) => drop_frame(out, line, frames, &label),
+        Some(Event::StoreFrame) => store_frame(out, line, frames, &label),
         _ => obtain(
             alloc, out, line, expansion, names, declared, target, side, label, word,
         ),
     }
 }
 
-// An output line isn't written.
-fn leave_out(out: &mut Vec<Guarded>, line: u32) -> Result<(), NoMemory>
+/// An output line isn't written.
+pub(crate) fn leave_out(out: &mut Vec<Guarded>, line: u32) -> Result<(), NoMemory>
     ensures { OnOk result (out.new.items ≡ out.old.items ++ unreported line ∷ []) }
 {
     let asked = Form::Assignment(Carried::Asked.target(), truth(false));

@@ -19,6 +19,13 @@ pub enum Message<'a> {
         words: &'static str,
         line: u32,
     },
+    /// A text that is put as too many statements.
+    #[error("{words} line {line}, put as {count} statements")]
+    Put {
+        words: &'static str,
+        line: u32,
+        count: usize,
+    },
     #[error("{words} block {block}")]
     Block {
         words: &'static str,
@@ -333,7 +340,7 @@ pub fn message_of<'a, R: Told>(fault: Fault<R>, name: &'a str) -> Message<'a> {
 /// The exit status of a fault: 1 refused, 2 usage, 5 want of memory, 6 a device.
 pub fn status_of(message: Message<'_>) -> u8 {
     match message {
-        Message::Source { .. } | Message::Block { .. } => 1,
+        Message::Source { .. } | Message::Put { .. } | Message::Block { .. } => 1,
         Message::Key { .. } | Message::Box { .. } | Message::BoxKey { .. } => 1,
         Message::Part { .. } | Message::Image { .. } => 1,
         Message::Usage | Message::Steps | Message::Option { .. } | Message::Unknown { .. } => 2,

@@ -1,12 +1,14 @@
 -- A text with its lengths as whole micrometres.
-use Rattle.std.specs.Prelude.{ℕ, suc, codes, ◌==◌, Bool, true, false, not, ◌&&◌, ◌||◌, nat_eq, nat_lt, if◌then◌else◌, List, [], ◌∷◌, ◌++◌, map}
+use Rattle.std.specs.Prelude.{ℕ, suc, is_some, codes, ◌==◌, Bool, true, false, not, ◌&&◌, ◌||◌, nat_eq, nat_lt, if◌then◌else◌, List, [], ◌∷◌, ◌++◌, map}
 use Rattle.std.specs.List.{list_all, filter}
 use Rattle.std.specs.Str.{bytes_eq}
 use Rattle.vcm_num.specs.Words.{look_up}
 use Rattle.vcm_lines.specs.Bytes.{upper}
 use Rattle.vcm_heads.specs.Heads.{found_or}
+use Rattle.vcm_functions.specs.Folded.{folded}
 use Rattle.vcm_plain.specs.declared.unit.Unit.{Unit}
 use Rattle.vcm_plain.specs.declared.unit.Unit.TheVariants.{Millimetre}
+use Rattle.vcm_plain.specs.declared.unit.Lengths.{Lengths}
 use Rattle.vcm_plain.specs.declared.lone.Lone.{Lone}
 use Rattle.vcm_plain.specs.declared.plain.Mode.{Mode}
 use Rattle.vcm_plain.specs.declared.plain.Mode.TheVariants as mode
@@ -14,7 +16,7 @@ use Rattle.vcm_plain.specs.declared.plain.Kind.{Kind}
 use Rattle.vcm_plain.specs.declared.plain.Kind.TheVariants as kind
 use Rattle.vcm_plain.specs.declared.plain.Place.{Place}
 use Rattle.vcm_plain.specs.Numbers.{unread, lone_from, is_lone, is_space, rounded, written_or}
-use Rattle.vcm_plain.specs.Units.{micrometres, is_same_unit}
+use Rattle.vcm_plain.specs.Units.{micrometres, unit_named, is_same_unit}
 use Rattle.vcm_plain.specs.Fine.{exact_text}
 
 -- ---- where the reading of a text stands
@@ -25,9 +27,9 @@ pub record Reading : Type 0 where
   pub field : List ℕ
   pub out : List ℕ
 
--- a statement begins
-abbrev pub start : Place
-start = record { mode = mode.Head; kind = kind.Other; first = true; numbers = 0; broken = false }
+-- a statement begins, in this unit
+abbrev pub start : Unit → Place
+start u = record { mode = mode.Head; kind = kind.Other; first = true; numbers = 0; broken = false; unit = u }
 
 -- ---- heads
 
@@ -45,6 +47,7 @@ kind_of word = found_or kind.Other (look_up
     ∷ (codes "FROM", kind.Places)
     ∷ (codes "TRANS", kind.Lengths)
     ∷ (codes "SNSET", kind.Lengths)
+    ∷ (codes "SNSDEF", kind.Sensor)
     ∷ (codes "UNITS", kind.Units)
     ∷ (codes "ASSIGN", kind.Values)
     ∷ (codes "IF", kind.Values)
@@ -98,13 +101,17 @@ is_kept_word bs = is_kept (word_of bs)
 abbrev pub other_field : Unit → List ℕ → List ℕ
 other_field u bs = if is_plain_unit u || is_kept_word bs then bs else 42 ∷ bs
 
--- a field that is an expression, or a word: in the language's unit numbers with more than three decimals are written as quotients
+-- an expression in the language's forms: functions in forms without them, and then numbers with more than three decimals as quotients
+abbrev pub plain_expression : List ℕ → List ℕ
+plain_expression bs = exact_text (folded bs)
+
+-- a field that is an expression, or a word: in the language's unit it is written in the language's forms
 abbrev pub expression_field : Unit → List ℕ → List ℕ
-expression_field u bs = if is_plain_unit u then exact_text bs else other_field u bs
+expression_field u bs = if is_plain_unit u then plain_expression bs else other_field u bs
 
 -- a field of values, in any unit; one that is broken in two stays
 abbrev pub value_field : Bool → List ℕ → List ℕ
-value_field broken bs = if broken then bs else exact_text bs
+value_field broken bs = if broken then bs else plain_expression bs
 
 -- how many micrometres one of a statement's numbers has, behind so many of them: the first three of a place are lengths, those behind are a direction
 abbrev pub unit_at : Kind → ℕ → Unit → ℕ
@@ -126,20 +133,40 @@ number_field u k n bs l =
 abbrev pub length_field : Unit → Kind → ℕ → List ℕ → Lone → List ℕ
 length_field u k n bs l = if is_lone l then number_field u k n bs l else expression_field u bs
 
--- the first field of UNITS: the unit is the language's
-abbrev pub units_field : Bool → Unit → List ℕ → List ℕ
-units_field first u bs = if first && not (is_plain_unit u) then codes "MM" else bs
+-- a field of a sensor's definition, of which the width of its tip alone is looked at: in another unit than the language's all its numbers are put as lengths
+abbrev pub sensor_field : Bool → Unit → ℕ → List ℕ → List ℕ
+sensor_field broken u n bs =
+    if is_plain_unit u || (broken || not (is_lone (lone_from unread bs))) then bs else number_field u kind.Sensor n bs (lone_from unread bs)
+
+-- the first field of UNITS, the word of a unit
+abbrev pub is_unit_field : Place → List ℕ → Bool
+is_unit_field p bs = (p.first && not p.broken) && is_some (unit_named (word_of bs))
+
+-- it is put as the language's unit, where lengths are converted
+abbrev pub units_field : Bool → Place → List ℕ → List ℕ
+units_field several p bs = if (several || not (is_plain_unit p.unit)) && is_unit_field p bs then codes "MM" else bs
 
 -- a field of a statement of some kind
-abbrev pub field_by : Kind → Place → Unit → List ℕ → List ℕ
-field_by kind.Other p u bs = bs
-field_by kind.Units p u bs = units_field p.first u bs
-field_by kind.Values p u bs = value_field p.broken bs
-field_by k p u bs = if p.broken then other_field u bs else length_field u k p.numbers bs (lone_from unread bs)
+abbrev pub field_by : Bool → Kind → Place → List ℕ → List ℕ
+field_by several kind.Other p bs = bs
+field_by several kind.Units p bs = units_field several p bs
+field_by several kind.Values p bs = value_field p.broken bs
+field_by several kind.Sensor p bs = sensor_field p.broken p.unit p.numbers bs
+field_by several k p bs = if p.broken then other_field p.unit bs else length_field p.unit k p.numbers bs (lone_from unread bs)
 
 -- the field that is open, as it is written
-abbrev pub field_out : Unit → Place → List ℕ → List ℕ
-field_out u p bs = field_by p.kind p u bs
+abbrev pub field_out : Bool → Place → List ℕ → List ℕ
+field_out several p bs = field_by several p.kind p bs
+
+-- whether a statement is UNITS
+abbrev pub is_units : Kind → Bool
+is_units kind.Units = true
+is_units k = false
+
+-- the unit behind a field: where a text has several, the first field of UNITS sets it
+abbrev pub unit_behind : Bool → Place → List ℕ → Unit
+unit_behind several p bs =
+    if several && (is_units p.kind && (p.first && not p.broken)) then found_or p.unit (unit_named (word_of bs)) else p.unit
 
 -- one more number, of which the first three count
 abbrev pub counted : Bool → ℕ → ℕ
@@ -156,9 +183,9 @@ kind_behind kind.Places bs = if is_polar_word bs then kind.Polar else kind.Place
 kind_behind k bs = k
 
 -- the next field
-abbrev pub next_field : Place → List ℕ → Place
-next_field p bs =
-    record p { kind = kind_behind p.kind bs; first = false; numbers = counted (is_lone (lone_from unread bs)) p.numbers; broken = false }
+abbrev pub next_field : Bool → Place → List ℕ → Place
+next_field several p bs =
+    record p { kind = kind_behind p.kind bs; first = false; numbers = counted (is_lone (lone_from unread bs)) p.numbers; broken = false; unit = unit_behind several p bs }
 
 -- whether a field has nothing but blanks
 abbrev pub is_blank_field : List ℕ → Bool
@@ -175,12 +202,12 @@ abbrev pub wrote : Reading → Place → List ℕ → Reading
 wrote r p bs = record { place = p; field = []; out = r.out ++ bs }
 
 -- in a head
-abbrev pub head_behind : Unit → Reading → ℕ → Reading
-head_behind u r b =
-    if b == 47 then wrote r (record start { mode = mode.Fields; kind = kind_of (word_of r.field) }) (head_out u r.field ++ 47 ∷ [])
+abbrev pub head_behind : Reading → ℕ → Reading
+head_behind r b =
+    if b == 47 then wrote r (record (start r.place.unit) { mode = mode.Fields; kind = kind_of (word_of r.field) }) (head_out r.place.unit r.field ++ 47 ∷ [])
     else if b == 36 then record r { place = record r.place { mode = mode.HeadDollar } }
     else if b == 39 then wrote r (record r.place { mode = mode.HeadText }) (r.field ++ 39 ∷ [])
-    else if b == 10 then wrote r start (r.field ++ 10 ∷ [])
+    else if b == 10 then wrote r (start r.place.unit) (r.field ++ 10 ∷ [])
     else if b == 61 || (b == 40 || (b == 41 || b == 44)) then wrote r r.place (r.field ++ b ∷ [])
     else onto r mode.Head b
 
@@ -192,10 +219,10 @@ head_dollar_behind r b =
     else wrote r (record r.place { mode = mode.HeadBroken }) (r.field ++ 36 ∷ b ∷ [])
 
 -- in fields
-abbrev pub fields_behind : Unit → Reading → ℕ → Reading
-fields_behind u r b =
-    if b == 44 then wrote r (next_field r.place r.field) (field_out u r.place r.field ++ 44 ∷ [])
-    else if b == 10 then wrote r start (field_out u r.place r.field ++ 10 ∷ [])
+abbrev pub fields_behind : Bool → Reading → ℕ → Reading
+fields_behind several r b =
+    if b == 44 then wrote r (next_field several r.place r.field) (field_out several r.place r.field ++ 44 ∷ [])
+    else if b == 10 then wrote r (start (unit_behind several r.place r.field)) (field_out several r.place r.field ++ 10 ∷ [])
     else if b == 36 then record r { place = record r.place { mode = mode.FieldsDollar } }
     else if b == 39 then onto r mode.FieldText b
     else onto r mode.Fields b
@@ -205,25 +232,25 @@ abbrev pub broken_place : Reading → Mode → Place
 broken_place r m = record r.place { mode = m; broken = r.place.broken || not (is_blank_field r.field) }
 
 -- and as it is written: as a field that is no number
-abbrev pub broken_out : Unit → Reading → List ℕ
-broken_out u r = if is_blank_field r.field then r.field else field_by r.place.kind (record r.place { broken = true }) u r.field
+abbrev pub broken_out : Bool → Reading → List ℕ
+broken_out several r = if is_blank_field r.field then r.field else field_by several r.place.kind (record r.place { broken = true }) r.field
 
 -- behind a dollar, in fields
-abbrev pub fields_dollar_behind : Unit → Reading → ℕ → Reading
-fields_dollar_behind u r b =
-    if b == 36 then wrote r (record r.place { mode = mode.Comment }) (field_out u r.place r.field ++ 36 ∷ 36 ∷ [])
-    else if b == 10 then wrote r (broken_place r mode.Fields) (broken_out u r ++ 36 ∷ 10 ∷ [])
-    else wrote r (broken_place r mode.FieldsBroken) (broken_out u r ++ 36 ∷ b ∷ [])
+abbrev pub fields_dollar_behind : Bool → Reading → ℕ → Reading
+fields_dollar_behind several r b =
+    if b == 36 then wrote r (record r.place { mode = mode.Comment; unit = unit_behind several r.place r.field }) (field_out several r.place r.field ++ 36 ∷ 36 ∷ [])
+    else if b == 10 then wrote r (broken_place r mode.Fields) (broken_out several r ++ 36 ∷ 10 ∷ [])
+    else wrote r (broken_place r mode.FieldsBroken) (broken_out several r ++ 36 ∷ b ∷ [])
 
 -- in a text of a head, in a comment, and between a dollar and the end of its line
 abbrev pub text_behind : Reading → ℕ → Reading
 text_behind r b =
     if b == 39 then wrote r (record r.place { mode = mode.Head }) (39 ∷ [])
-    else if b == 10 then wrote r start (10 ∷ [])
+    else if b == 10 then wrote r (start r.place.unit) (10 ∷ [])
     else wrote r r.place (b ∷ [])
 
 abbrev pub comment_behind : Reading → ℕ → Reading
-comment_behind r b = if b == 10 then wrote r start (10 ∷ []) else wrote r r.place (b ∷ [])
+comment_behind r b = if b == 10 then wrote r (start r.place.unit) (10 ∷ []) else wrote r r.place (b ∷ [])
 
 abbrev pub broken_behind : Mode → Reading → ℕ → Reading
 broken_behind m r b = if b == 10 then wrote r (record r.place { mode = m }) (10 ∷ []) else wrote r r.place (b ∷ [])
@@ -232,41 +259,41 @@ broken_behind m r b = if b == 10 then wrote r (record r.place { mode = m }) (10 
 abbrev pub field_text_behind : Reading → ℕ → Reading
 field_text_behind r b =
     if b == 39 then onto r mode.Fields b
-    else if b == 10 then wrote r start (r.field ++ 10 ∷ [])
+    else if b == 10 then wrote r (start r.place.unit) (r.field ++ 10 ∷ [])
     else onto r mode.FieldText b
 
 -- one more byte
-abbrev pub read_behind : Unit → Mode → Reading → ℕ → Reading
-read_behind u mode.Head r b = head_behind u r b
-read_behind u mode.HeadDollar r b = head_dollar_behind r b
-read_behind u mode.HeadText r b = text_behind r b
-read_behind u mode.HeadBroken r b = broken_behind mode.Head r b
-read_behind u mode.Fields r b = fields_behind u r b
-read_behind u mode.FieldsDollar r b = fields_dollar_behind u r b
-read_behind u mode.FieldText r b = field_text_behind r b
-read_behind u mode.FieldsBroken r b = broken_behind mode.Fields r b
-read_behind u mode.Comment r b = comment_behind r b
+abbrev pub read_behind : Bool → Mode → Reading → ℕ → Reading
+read_behind several mode.Head r b = head_behind r b
+read_behind several mode.HeadDollar r b = head_dollar_behind r b
+read_behind several mode.HeadText r b = text_behind r b
+read_behind several mode.HeadBroken r b = broken_behind mode.Head r b
+read_behind several mode.Fields r b = fields_behind several r b
+read_behind several mode.FieldsDollar r b = fields_dollar_behind several r b
+read_behind several mode.FieldText r b = field_text_behind r b
+read_behind several mode.FieldsBroken r b = broken_behind mode.Fields r b
+read_behind several mode.Comment r b = comment_behind r b
 
 -- all bytes
-abbrev pub read_from : Unit → Reading → List ℕ → Reading
-read_from u r [] = r
-read_from u r (b ∷ bs) = read_from u (read_behind u r.place.mode r b) bs
+abbrev pub read_from : Bool → Reading → List ℕ → Reading
+read_from several r [] = r
+read_from several r (b ∷ bs) = read_from several (read_behind several r.place.mode r b) bs
 
--- nothing is read
-abbrev pub nothing_read : Reading
-nothing_read = record { place = start; field = []; out = [] }
+-- nothing is read, in this unit
+abbrev pub nothing_read : Unit → Reading
+nothing_read u = record { place = start u; field = []; out = [] }
 
 -- what is open at the end, as it is written
-abbrev pub last_out : Unit → Mode → Place → List ℕ → List ℕ
-last_out u mode.Fields p bs = field_out u p bs
-last_out u mode.HeadDollar p bs = bs ++ 36 ∷ []
-last_out u mode.FieldsDollar p bs = bs ++ 36 ∷ []
-last_out u m p bs = bs
+abbrev pub last_out : Bool → Mode → Place → List ℕ → List ℕ
+last_out several mode.Fields p bs = field_out several p bs
+last_out several mode.HeadDollar p bs = bs ++ 36 ∷ []
+last_out several mode.FieldsDollar p bs = bs ++ 36 ∷ []
+last_out several m p bs = bs
 
 -- all that is written
-abbrev pub written_out : Unit → Reading → List ℕ
-written_out u r = r.out ++ last_out u r.place.mode r.place r.field
+abbrev pub written_out : Bool → Reading → List ℕ
+written_out several r = r.out ++ last_out several r.place.mode r.place r.field
 
--- a text of this unit with its lengths as whole micrometres
-abbrev pub plain : Unit → List ℕ → List ℕ
-plain u text = written_out u (read_from u nothing_read text)
+-- a text with its lengths, which are read in this way, as whole micrometres
+abbrev pub plain : Lengths → List ℕ → List ℕ
+plain l text = written_out l.several (read_from l.several (nothing_read l.unit) text)

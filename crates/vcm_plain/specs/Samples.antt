@@ -2,7 +2,12 @@
 use Rattle.std.specs.Prelude.{◌≡◌, refl, ℕ, true, false, List, [], ◌∷◌, ◌++◌, codes}
 use Rattle.std.specs.Fmt.{digits}
 use Rattle.vcm_plain.specs.declared.unit.Unit.TheVariants.{Millimetre, Inch}
+use Rattle.vcm_functions.specs.Values.{root}
+use Rattle.vcm_functions.specs.Calls.{pass}
+use Rattle.vcm_functions.specs.Relations.{opened_text}
+use Rattle.vcm_functions.specs.Folded.{has_function}
 use Rattle.vcm_plain.specs.Fine.{exact_text, has_fine}
+use Rattle.vcm_plain.specs.Units.{all_in, from_unit}
 use Rattle.vcm_plain.specs.Plain.{plain}
 
 -- a field is written like this
@@ -95,23 +100,41 @@ whole_before_operator = refl
 abbrev line : List ℕ → List ℕ
 line bs = bs ++ 10 ∷ []
 
-pub assigned : plain Millimetre (line (codes "R=ASSIGN/I*0.0254")) ≡ line (codes "R=ASSIGN/I*(0.254/10)")
-unfolding digits
+pub assigned : plain (all_in Millimetre) (line (codes "R=ASSIGN/I*0.0254")) ≡ line (codes "R=ASSIGN/I*(0.254/10)")
+unfolding digits has_function
 assigned = refl
 
-pub assigned_in_inches : plain Inch (line (codes "R=ASSIGN/0.0254")) ≡ line (codes "R=ASSIGN/(0.254/10)")
-unfolding digits
+pub assigned_in_inches : plain (all_in Inch) (line (codes "R=ASSIGN/0.0254")) ≡ line (codes "R=ASSIGN/(0.254/10)")
+unfolding digits has_function
 assigned_in_inches = refl
 
-pub moved : plain Millimetre (line (codes "GOTO/X*0.70711,20.0005,5")) ≡ line (codes "GOTO/X*(70.711/100),20.001,5")
-unfolding digits
+pub moved : plain (all_in Millimetre) (line (codes "GOTO/X*0.70711,20.0005,5")) ≡ line (codes "GOTO/X*(70.711/100),20.001,5")
+unfolding digits has_function
 moved = refl
 
+-- functions
+pub rooted : plain (all_in Millimetre) (line (codes "GOTO/SQRT(200.0),0,0")) ≡ line (codes "GOTO/(1414213.562/100000),0,0")
+unfolding digits has_function pass opened_text root
+rooted = refl
+
+pub nested : plain (all_in Inch) (line (codes "R=ASSIGN/SIN(DTOR(30))")) ≡ line (codes "R=ASSIGN/0.5")
+unfolding digits has_function pass opened_text root
+nested = refl
+
+pub opened : plain (all_in Millimetre) (line (codes "IF/(ABS(DEV).GT.ZLIM)")) ≡ line (codes "IF/(((DEV).GT.ZLIM.OR.(0-(DEV)).GT.ZLIM))")
+unfolding digits has_function pass opened_text root
+opened = refl
+
 -- a field that is broken in two, and statements without expressions
-pub broken : plain Millimetre (codes "R=ASSIGN/I*0.0254$" ++ 10 ∷ codes "+1") ≡ codes "R=ASSIGN/I*0.0254$" ++ 10 ∷ codes "+1"
+pub broken : plain (all_in Millimetre) (codes "R=ASSIGN/I*0.0254$" ++ 10 ∷ codes "+1") ≡ codes "R=ASSIGN/I*0.0254$" ++ 10 ∷ codes "+1"
 broken = refl
 
-pub silent : plain Millimetre (line (codes "T(A)=TOL/POS,0.0125")) ≡ line (codes "T(A)=TOL/POS,0.0125")
+pub in_two_units : plain (from_unit Inch) (line (codes "UNITS/INCH,ANGDEC") ++ line (codes "GOTO/1,2,3") ++ line (codes "UNITS/MM,ANGDEC") ++ line (codes "GOTO/1,2,3"))
+    ≡ line (codes "UNITS/MM,ANGDEC") ++ line (codes "GOTO/25.400,50.800,76.200") ++ line (codes "UNITS/MM,ANGDEC") ++ line (codes "GOTO/1,2,3")
+unfolding digits
+in_two_units = refl
+
+pub silent : plain (all_in Millimetre) (line (codes "T(A)=TOL/POS,0.0125")) ≡ line (codes "T(A)=TOL/POS,0.0125")
 silent = refl
 
 -- ---- whether there is such a number

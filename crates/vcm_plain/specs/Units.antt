@@ -1,15 +1,15 @@
 -- The unit of a text.
-use Rattle.std.specs.Prelude.{ℕ, codes, Bool, true, false, not, ◌||◌, if◌then◌else◌, List, [], ◌∷◌, Option, Some, None}
+use Rattle.std.specs.Prelude.{ℕ, suc, ◌-◌, codes, Bool, true, false, not, nat_eq, ◌&&◌, ◌||◌, if◌then◌else◌, List, [], ◌∷◌, Option, Some, None}
 use Rattle.std.specs.List.{list_all}
 use Rattle.std.specs.Str.{bytes_eq}
 use Rattle.vcm_num.specs.Words.{look_up}
 use Rattle.vcm_lines.specs.declared.logical.Logical.{Logical}
-use Rattle.vcm_lines.specs.Lexemes.{Lexeme}
 use Rattle.vcm_heads.specs.declared.rows.Row.{Row}
 use Rattle.vcm_heads.specs.declared.rows.Row.TheVariants as row
 use Rattle.vcm_heads.specs.Heads.{found_or, major_of, behind_of, first_field}
 use Rattle.vcm_heads.specs.Rows.{row_in, words_of}
 use Rattle.vcm_plain.specs.declared.unit.Unit.{Unit}
+use Rattle.vcm_plain.specs.declared.unit.Lengths.{Lengths}
 use Rattle.vcm_plain.specs.declared.unit.Unit.TheVariants.{Millimetre, Centimetre, Metre, Inch, Foot}
 
 -- how many micrometres a unit has
@@ -94,11 +94,49 @@ agrees u l = agrees_with u (set_by (is_units (row_in (words_of l))) l)
 abbrev pub all_agree : Unit → List Logical → Bool
 all_agree u ls = list_all (agrees u) ls
 
--- a unit that a text begins with, where it sets no other
-abbrev pub unit_if : Option Unit → List Logical → Unit
-unit_if None ls = Millimetre
-unit_if (Some u) ls = if all_agree u ls then u else Millimetre
+-- ---- several units
 
--- the unit of a text: where it sets several, that of the language
-abbrev pub single_unit : List Logical → Unit
-single_unit ls = unit_if (opening_unit ls) ls
+-- whether a statement begins a block, by its major word
+abbrev pub begins_block : List ℕ → Bool
+begins_block major = found_or false (look_up ((codes "IF", true) ∷ (codes "DO", true) ∷ (codes "SELECT", true) ∷ []) major)
+
+-- whether it ends one
+abbrev pub ends_block : List ℕ → Bool
+ends_block major = found_or false (look_up ((codes "ENDIF", true) ∷ (codes "ENDDO", true) ∷ (codes "ENDSEL", true) ∷ []) major)
+
+-- whether what stands below in writing may be carried out before, or more than once
+abbrev pub bends : List ℕ → Bool
+bends major = found_or false (look_up ((codes "MACRO", true) ∷ (codes "JUMPTO", true) ∷ (codes "ITERAT", true) ∷ []) major)
+
+-- how many blocks are open behind a statement
+abbrev pub depth_behind : ℕ → List ℕ → ℕ
+depth_behind depth major = if begins_block major then suc depth else if ends_block major then depth - 1 else depth
+
+-- whether a statement, with so many blocks open, lets the units of a text be carried out as they are written: no jump, no macro, no UNITS in a block
+abbrev pub is_straight_at : ℕ → Bool → List ℕ → Bool
+is_straight_at depth units major = not (bends major || (units && not (nat_eq depth 0)))
+
+unfoldable pub is_straight : ℕ → Logical → Bool
+is_straight depth l = is_straight_at depth (is_units (row_in (words_of l))) (major_of (words_of l))
+
+-- whether all statements do
+abbrev pub straight_from : ℕ → List Logical → Bool
+straight_from depth [] = true
+straight_from depth (l ∷ ls) = is_straight depth l && straight_from (depth_behind depth (major_of (words_of l))) ls
+
+-- lengths of one unit
+abbrev pub all_in : Unit → Lengths
+all_in u = record { unit = u; several = false }
+
+-- lengths of several units, the first of which is this one
+abbrev pub from_unit : Unit → Lengths
+from_unit u = record { unit = u; several = true }
+
+-- the lengths of a text that begins with a unit: where it sets others, by them if it is carried out as it is written, else those of the language
+abbrev pub lengths_if : Option Unit → List Logical → Lengths
+lengths_if None ls = all_in Millimetre
+lengths_if (Some u) ls = if all_agree u ls then all_in u else if straight_from 0 ls then from_unit u else all_in Millimetre
+
+-- the lengths of a text
+abbrev pub lengths_of : List Logical → Lengths
+lengths_of ls = lengths_if (opening_unit ls) ls

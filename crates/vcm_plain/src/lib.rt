@@ -10,4 +10,4 @@ mod unit;
 
 pub use lone::millionths_of;
 pub use plain::{Kind, Mode, Place, plain_text};
-pub use unit::{Unit, single_unit};
+pub use unit::{Lengths, Unit, lengths_of};

@@ -2,13 +2,14 @@
 
 ghost use Rattle.std.specs.Prelude.{◌≡◌, ◌++◌, ◌∷◌, [], ◌≤◌, ◌<◌, ℕ, List, true, OnOk, IfOk, drop};
 ghost use Rattle.vcm_plain.specs.Numbers.{unread, lone_from, is_lone, is_space};
-ghost use Rattle.vcm_plain.specs.Plain.{Reading, start, word_of, kind_of, is_plain_unit, head_out, is_kind_word, is_setting_word, is_kept, is_kept_word, other_field, expression_field, value_field, unit_at, is_angle, number_field, length_field, units_field, field_by, field_out, counted, kind_behind, next_field, is_blank_field, onto, wrote, head_behind, head_dollar_behind, fields_behind, broken_place, broken_out, fields_dollar_behind, text_behind, comment_behind, broken_behind, field_text_behind, read_behind, read_from, nothing_read, last_out, written_out, plain};
+ghost use Rattle.vcm_plain.specs.Plain.{Reading, start, word_of, kind_of, is_plain_unit, head_out, is_kind_word, is_setting_word, is_kept, is_kept_word, other_field, plain_expression, expression_field, value_field, unit_at, is_angle, number_field, length_field, sensor_field, is_unit_field, units_field, is_units, unit_behind, field_by, field_out, counted, kind_behind, next_field, is_blank_field, onto, wrote, head_behind, head_dollar_behind, fields_behind, broken_place, broken_out, fields_dollar_behind, text_behind, comment_behind, broken_behind, field_text_behind, read_behind, read_from, nothing_read, last_out, written_out, plain};
 
 use crate::fine::put_exact;
 use crate::lone::{Lone, is_lone, lone_of, put_lone};
-use crate::unit::Unit;
+use crate::unit::{Lengths, Unit};
 use std::alloc::Global;
 use std::marker::Model;
+use vcm_functions::folded;
 use vcm_num::{NoMemory, is, look_up};
 
 /// Where the reading of a text stands.
@@ -49,6 +50,8 @@ pub enum Kind {
     Lengths,
     /// Values, by expressions.
     Values,
+    /// A sensor, of which the width of its tip is looked at.
+    Sensor,
 }
 
 /// Where a byte of a text stands.
@@ -62,6 +65,8 @@ pub struct Place {
     pub numbers: u8,
     /// Whether the field begins in a line above.
     pub broken: bool,
+    /// The unit of its lengths.
+    pub unit: Unit,
 }
 
 /// A text as it is read: the place, the bytes that are open, and those that are written.
@@ -72,9 +77,9 @@ struct Reader {
     out: Vec<u8>,
 }
 
-// A statement begins.
-fn start() -> Place
-    ensures { result ≡ start }
+// A statement begins, in this unit.
+fn start(unit: Unit) -> Place
+    ensures { result ≡ start unit }
 {
     Place {
         mode: Mode::Head,
@@ -82,6 +87,7 @@ fn start() -> Place
         first: true,
         numbers: 0,
         broken: false,
+        unit,
     }
 }
 
@@ -118,6 +124,7 @@ fn kind_of(word: &[u8]) -> Kind
             (b"FROM", Kind::Places),
             (b"TRANS", Kind::Lengths),
             (b"SNSET", Kind::Lengths),
+            (b"SNSDEF", Kind::Sensor),
             (b"UNITS", Kind::Units),
             (b"ASSIGN", Kind::Values),
             (b"IF", Kind::Values),
@@ -213,6 +220,14 @@ fn put_other(alloc: Global, unit: Unit, bytes: &[u8], out: &mut Vec<u8>) -> Resu
     Ok(())
 }
 
+// Appends an expression in the language's forms.
+fn put_plain(alloc: Global, bytes: &[u8], out: &mut Vec<u8>) -> Result<(), NoMemory>
+    ensures { OnOk result (out.new.items ≡ out.old.items ++ plain_expression bytes.now) }
+{
+    let folded = folded(alloc, bytes)?;
+    put_exact(alloc, &folded, out)
+}
+
 // Appends a field that is an expression, or a word.
 fn put_expression(
     alloc: Global,
@@ -223,7 +238,7 @@ fn put_expression(
     ensures { OnOk result (out.new.items ≡ out.old.items ++ expression_field unit bytes.now) }
 {
     if is_plain_unit(unit) {
-        put_exact(alloc, bytes, out)
+        put_plain(alloc, bytes, out)
     } else {
         put_other(alloc, unit, bytes, out)
     }
@@ -271,33 +286,74 @@ fn put_number(
 }
 
 // Appends a field of lengths.
-fn put_lengths(
+fn put_lengths(alloc: Global, place: Place, bytes: &[u8], out: &mut Vec<u8>) -> Result<(), NoMemory>
+    ensures { OnOk result (out.new.items ≡ out.old.items ++ length_field place.unit place.kind place.numbers bytes.now (lone_from unread bytes.now)) }
+{
+    let lone = lone_of(bytes);
+    if is_lone(lone) {
+        put_number(place.unit, place.kind, place.numbers, bytes, lone, out)
+    } else {
+        put_expression(alloc, place.unit, bytes, out)
+    }
+}
+
+// Appends a field of a sensor's definition.
+fn put_sensor(place: Place, bytes: &[u8], out: &mut Vec<u8>) -> Result<(), NoMemory>
+    ensures { OnOk result (out.new.items ≡ out.old.items ++ sensor_field place.broken place.unit place.numbers bytes.now) }
+{
+    let lone = lone_of(bytes);
+    if is_plain_unit(place.unit) || place.broken || !is_lone(lone) {
+        out.extend_from_slice(bytes)?;
+        Ok(())
+    } else {
+        put_number(place.unit, Kind::Sensor, place.numbers, bytes, lone, out)
+    }
+}
+
+// Whether a field is the first one of UNITS, the word of a unit.
+fn is_unit_field(alloc: Global, place: Place, bytes: &[u8]) -> Result<bool, NoMemory>
+    ensures { IfOk result (λ it. it ≡ is_unit_field place bytes.now) }
+{
+    let word = word_of(alloc, bytes)?;
+    Ok(place.first && !place.broken && Unit::named(&word).is_some())
+}
+
+// Appends a field of UNITS.
+fn put_units(
     alloc: Global,
-    unit: Unit,
+    several: bool,
     place: Place,
     bytes: &[u8],
     out: &mut Vec<u8>,
 ) -> Result<(), NoMemory>
-    ensures { OnOk result (out.new.items ≡ out.old.items ++ length_field unit place.kind place.numbers bytes.now (lone_from unread bytes.now)) }
+    ensures { OnOk result (out.new.items ≡ out.old.items ++ units_field several place bytes.now) }
 {
-    let lone = lone_of(bytes);
-    if is_lone(lone) {
-        put_number(unit, place.kind, place.numbers, bytes, lone, out)
-    } else {
-        put_expression(alloc, unit, bytes, out)
-    }
-}
-
-// Appends the first field of UNITS.
-fn put_units(unit: Unit, first: bool, bytes: &[u8], out: &mut Vec<u8>) -> Result<(), NoMemory>
-    ensures { OnOk result (out.new.items ≡ out.old.items ++ units_field first unit bytes.now) }
-{
-    if first && !is_plain_unit(unit) {
+    let is_word = is_unit_field(alloc, place, bytes)?;
+    if (several || !is_plain_unit(place.unit)) && is_word {
         out.extend_from_slice(b"MM")?;
     } else {
         out.extend_from_slice(bytes)?;
     }
     Ok(())
+}
+
+// Whether a statement is UNITS.
+fn is_units(kind: Kind) -> bool
+    ensures { result ≡ is_units kind }
+{
+    matches!(kind, Kind::Units)
+}
+
+// The unit behind a field.
+fn unit_behind(alloc: Global, several: bool, place: Place, bytes: &[u8]) -> Result<Unit, NoMemory>
+    ensures { IfOk result (λ u. u ≡ unit_behind several place bytes.now) }
+{
+    let word = word_of(alloc, bytes)?;
+    if several && is_units(place.kind) && place.first && !place.broken {
+        Ok(Unit::named(&word).unwrap_or(place.unit))
+    } else {
+        Ok(place.unit)
+    }
 }
 
 // Appends a field of values.
@@ -308,32 +364,33 @@ fn put_value(alloc: Global, broken: bool, bytes: &[u8], out: &mut Vec<u8>) -> Re
         out.extend_from_slice(bytes)?;
         Ok(())
     } else {
-        put_exact(alloc, bytes, out)
+        put_plain(alloc, bytes, out)
     }
 }
 
 // Appends a field that is open.
 fn put_field(
     alloc: Global,
-    unit: Unit,
+    several: bool,
     place: Place,
     bytes: &[u8],
     out: &mut Vec<u8>,
 ) -> Result<(), NoMemory>
-    ensures { OnOk result (out.new.items ≡ out.old.items ++ field_out unit place bytes.now) }
+    ensures { OnOk result (out.new.items ≡ out.old.items ++ field_out several place bytes.now) }
 {
     match place.kind {
         Kind::Other => {
             out.extend_from_slice(bytes)?;
             Ok(())
         }
-        Kind::Units => put_units(unit, place.first, bytes, out),
+        Kind::Sensor => put_sensor(place, bytes, out),
+        Kind::Units => put_units(alloc, several, place, bytes, out),
         Kind::Values => put_value(alloc, place.broken, bytes, out),
         Kind::Places | Kind::Polar | Kind::Lengths => {
             if place.broken {
-                put_other(alloc, unit, bytes, out)
+                put_other(alloc, place.unit, bytes, out)
             } else {
-                put_lengths(alloc, unit, place, bytes, out)
+                put_lengths(alloc, place, bytes, out)
             }
         }
     }
@@ -356,8 +413,8 @@ fn kind_behind(alloc: Global, kind: Kind, bytes: &[u8]) -> Result<Kind, NoMemory
 }
 
 // The next field.
-fn next_field(alloc: Global, place: Place, bytes: &[u8]) -> Result<Place, NoMemory>
-    ensures { IfOk result (λ p. p ≡ next_field place bytes.now) }
+fn next_field(alloc: Global, several: bool, place: Place, bytes: &[u8]) -> Result<Place, NoMemory>
+    ensures { IfOk result (λ p. p ≡ next_field several place bytes.now) }
 {
     let numbers = if is_lone(lone_of(bytes)) && place.numbers < 3 {
         place.numbers + 1
@@ -369,6 +426,7 @@ fn next_field(alloc: Global, place: Place, bytes: &[u8]) -> Result<Place, NoMemo
         first: false,
         numbers,
         broken: false,
+        unit: unit_behind(alloc, several, place, bytes)?,
         ..place
     })
 }
@@ -390,7 +448,7 @@ impl Model for Reader {
 
 impl Reader {
     ghost use Rattle.std.specs.Prelude.{◌≡◌, ◌++◌, ◌∷◌, [], OnOk};
-    ghost use Rattle.vcm_plain.specs.Plain.{start, word_of, kind_of, head_out, field_out, next_field, onto, wrote, head_behind, head_dollar_behind, fields_behind, broken_place, broken_out, fields_dollar_behind, text_behind, comment_behind, broken_behind, field_text_behind, read_behind, written_out};
+    ghost use Rattle.vcm_plain.specs.Plain.{start, word_of, kind_of, head_out, field_out, unit_behind, next_field, onto, wrote, head_behind, head_dollar_behind, fields_behind, broken_place, broken_out, fields_dollar_behind, text_behind, comment_behind, broken_behind, field_text_behind, read_behind, written_out};
 
     // One more byte is open.
     fn push(&mut self, mode: Mode, byte: u8) -> Result<(), NoMemory>
@@ -423,13 +481,13 @@ impl Reader {
     fn write_field(
         &mut self,
         alloc: Global,
-        unit: Unit,
+        several: bool,
         place: Place,
         bytes: &[u8],
     ) -> Result<(), NoMemory>
-        ensures { OnOk result (self.new ≡ wrote self.old place (field_out unit self.old.place self.old.field ++ bytes.now)) }
+        ensures { OnOk result (self.new ≡ wrote self.old place (field_out several self.old.place self.old.field ++ bytes.now)) }
     {
-        put_field(alloc, unit, self.place, &self.field, &mut self.out)?;
+        put_field(alloc, several, self.place, &self.field, &mut self.out)?;
         self.write(place, bytes)
     }
 
@@ -437,11 +495,11 @@ impl Reader {
     fn write_broken(
         &mut self,
         alloc: Global,
-        unit: Unit,
+        several: bool,
         mode: Mode,
         bytes: &[u8],
     ) -> Result<(), NoMemory>
-        ensures { OnOk result (self.new ≡ wrote self.old (broken_place self.old mode) (broken_out unit self.old ++ bytes.now)) }
+        ensures { OnOk result (self.new ≡ wrote self.old (broken_place self.old mode) (broken_out several self.old ++ bytes.now)) }
     {
         let blank = is_blank_field(&self.field);
         let place = self.place;
@@ -457,20 +515,20 @@ impl Reader {
             broken: true,
             ..place
         };
-        put_field(alloc, unit, open, &self.field, &mut self.out)?;
+        put_field(alloc, several, open, &self.field, &mut self.out)?;
         self.write(broken, bytes)
     }
 
     // The fields of a statement begin.
-    fn begin_fields(&mut self, alloc: Global, unit: Unit) -> Result<(), NoMemory>
-        ensures { OnOk result (self.new ≡ head_behind unit self.old 47) }
+    fn begin_fields(&mut self, alloc: Global) -> Result<(), NoMemory>
+        ensures { OnOk result (self.new ≡ head_behind self.old 47) }
     {
         let word = word_of(alloc, &self.field)?;
-        put_head(unit, &self.field, &word, &mut self.out)?;
+        put_head(self.place.unit, &self.field, &word, &mut self.out)?;
         let place = Place {
             mode: Mode::Fields,
             kind: kind_of(&word),
-            ..start()
+            ..start(self.place.unit)
         };
         self.write(place, b"/")
     }
@@ -490,17 +548,17 @@ impl Reader {
     }
 
     // In a head.
-    fn read_head(&mut self, alloc: Global, unit: Unit, byte: u8) -> Result<(), NoMemory>
-        ensures { OnOk result (self.new ≡ head_behind unit self.old byte) }
+    fn read_head(&mut self, alloc: Global, byte: u8) -> Result<(), NoMemory>
+        ensures { OnOk result (self.new ≡ head_behind self.old byte) }
     {
         match byte {
-            b'/' => self.begin_fields(alloc, unit),
+            b'/' => self.begin_fields(alloc),
             b'$' => {
                 self.go_on(Mode::HeadDollar);
                 Ok(())
             }
             b'\'' => self.write_open(self.in_mode(Mode::HeadText), b"'"),
-            b'\n' => self.write_open(start(), b"\n"),
+            b'\n' => self.write_open(start(self.place.unit), b"\n"),
             b'=' | b'(' | b')' | b',' => self.write_open(self.place, &[byte]),
             _ => self.push(Mode::Head, byte),
         }
@@ -518,15 +576,18 @@ impl Reader {
     }
 
     // In fields.
-    fn read_fields(&mut self, alloc: Global, unit: Unit, byte: u8) -> Result<(), NoMemory>
-        ensures { OnOk result (self.new ≡ fields_behind unit self.old byte) }
+    fn read_fields(&mut self, alloc: Global, several: bool, byte: u8) -> Result<(), NoMemory>
+        ensures { OnOk result (self.new ≡ fields_behind several self.old byte) }
     {
         match byte {
             b',' => {
-                let place = next_field(alloc, self.place, &self.field)?;
-                self.write_field(alloc, unit, place, b",")
+                let place = next_field(alloc, several, self.place, &self.field)?;
+                self.write_field(alloc, several, place, b",")
             }
-            b'\n' => self.write_field(alloc, unit, start(), b"\n"),
+            b'\n' => {
+                let unit = unit_behind(alloc, several, self.place, &self.field)?;
+                self.write_field(alloc, several, start(unit), b"\n")
+            }
             b'$' => {
                 self.go_on(Mode::FieldsDollar);
                 Ok(())
@@ -537,13 +598,20 @@ impl Reader {
     }
 
     // Behind a dollar, in fields.
-    fn read_fields_dollar(&mut self, alloc: Global, unit: Unit, byte: u8) -> Result<(), NoMemory>
-        ensures { OnOk result (self.new ≡ fields_dollar_behind unit self.old byte) }
+    fn read_fields_dollar(&mut self, alloc: Global, several: bool, byte: u8) -> Result<(), NoMemory>
+        ensures { OnOk result (self.new ≡ fields_dollar_behind several self.old byte) }
     {
         match byte {
-            b'$' => self.write_field(alloc, unit, self.in_mode(Mode::Comment), b"$$"),
-            b'\n' => self.write_broken(alloc, unit, Mode::Fields, b"$\n"),
-            _ => self.write_broken(alloc, unit, Mode::FieldsBroken, &[b'$', byte]),
+            b'$' => {
+                let place = Place {
+                    mode: Mode::Comment,
+                    unit: unit_behind(alloc, several, self.place, &self.field)?,
+                    ..self.place
+                };
+                self.write_field(alloc, several, place, b"$$")
+            }
+            b'\n' => self.write_broken(alloc, several, Mode::Fields, b"$\n"),
+            _ => self.write_broken(alloc, several, Mode::FieldsBroken, &[b'$', byte]),
         }
     }
 
@@ -553,7 +621,7 @@ impl Reader {
     {
         match byte {
             b'\'' => self.write(self.in_mode(Mode::Head), b"'"),
-            b'\n' => self.write(start(), b"\n"),
+            b'\n' => self.write(start(self.place.unit), b"\n"),
             _ => self.write(self.place, &[byte]),
         }
     }
@@ -563,7 +631,7 @@ impl Reader {
         ensures { OnOk result (self.new ≡ comment_behind self.old byte) }
     {
         match byte {
-            b'\n' => self.write(start(), b"\n"),
+            b'\n' => self.write(start(self.place.unit), b"\n"),
             _ => self.write(self.place, &[byte]),
         }
     }
@@ -584,22 +652,22 @@ impl Reader {
     {
         match byte {
             b'\'' => self.push(Mode::Fields, byte),
-            b'\n' => self.write_open(start(), b"\n"),
+            b'\n' => self.write_open(start(self.place.unit), b"\n"),
             _ => self.push(Mode::FieldText, byte),
         }
     }
 
     // One more byte.
-    fn read(&mut self, alloc: Global, unit: Unit, byte: u8) -> Result<(), NoMemory>
-        ensures { OnOk result (self.new ≡ read_behind unit self.old.place.mode self.old byte) }
+    fn read(&mut self, alloc: Global, several: bool, byte: u8) -> Result<(), NoMemory>
+        ensures { OnOk result (self.new ≡ read_behind several self.old.place.mode self.old byte) }
     {
         match self.place.mode {
-            Mode::Head => self.read_head(alloc, unit, byte),
+            Mode::Head => self.read_head(alloc, byte),
             Mode::HeadDollar => self.read_head_dollar(byte),
             Mode::HeadText => self.read_text(byte),
             Mode::HeadBroken => self.read_broken(Mode::Head, byte),
-            Mode::Fields => self.read_fields(alloc, unit, byte),
-            Mode::FieldsDollar => self.read_fields_dollar(alloc, unit, byte),
+            Mode::Fields => self.read_fields(alloc, several, byte),
+            Mode::FieldsDollar => self.read_fields_dollar(alloc, several, byte),
             Mode::FieldText => self.read_field_text(byte),
             Mode::FieldsBroken => self.read_broken(Mode::Fields, byte),
             Mode::Comment => self.read_comment(byte),
@@ -607,35 +675,35 @@ impl Reader {
     }
 
     // What is open at the end is written.
-    fn end(&mut self, alloc: Global, unit: Unit) -> Result<(), NoMemory>
-        ensures { OnOk result (self.new.out ≡ written_out unit self.old) }
+    fn end(&mut self, alloc: Global, several: bool) -> Result<(), NoMemory>
+        ensures { OnOk result (self.new.out ≡ written_out several self.old) }
     {
         match self.place.mode {
-            Mode::Fields => self.write_field(alloc, unit, self.place, b""),
+            Mode::Fields => self.write_field(alloc, several, self.place, b""),
             Mode::HeadDollar | Mode::FieldsDollar => self.write_open(self.place, b"$"),
             _ => self.write_open(self.place, b""),
         }
     }
 }
 
-/// A text of this unit with its lengths as whole micrometres, line by line: in fields of places, lengths and settings a number with more than three decimals is rounded, and in
-/// another unit than millimetres each is converted; there a field that is no number is put as one that isn't known. In expressions a number with more than three decimals
-/// is written as a quotient.
+/// A text whose lengths are read in this way, with them as whole micrometres, line by line: in fields of places, lengths and settings a number with more than three
+/// decimals is rounded, and in another unit than millimetres each is converted; there a field that is no number is put as one that isn't known. In expressions
+/// functions of numbers are written as their values, absolute values in relations are opened, and a number with more than three decimals is written as a quotient.
 ///
 /// # Errors
 ///
 /// Out of memory.
-pub fn plain_text(alloc: Global, unit: Unit, text: &[u8]) -> Result<Vec<u8>, NoMemory>
-    ensures { IfOk result (λ written. written.items ≡ plain unit text.now) }
+pub fn plain_text(alloc: Global, lengths: Lengths, text: &[u8]) -> Result<Vec<u8>, NoMemory>
+    ensures { IfOk result (λ written. written.items ≡ plain lengths text.now) }
 {
     let mut reader = Reader {
-        place: start(),
+        place: start(lengths.unit),
         field: Vec::new(alloc),
         out: Vec::new(alloc),
     };
     for byte in text {
-        reader.read(alloc, unit, *byte)?;
+        reader.read(alloc, lengths.several, *byte)?;
     }
-    reader.end(alloc, unit)?;
+    reader.end(alloc, lengths.several)?;
     Ok(reader.out)
 }

@@ -1,7 +1,7 @@
 //! The unit of a text.
 
-ghost use Rattle.std.specs.Prelude.{◌≡◌, Some, None, true};
-ghost use Rattle.vcm_plain.specs.Units.{micrometres, unit_named, is_units, is_silent, set_by, opens_with, opening_unit, agrees, all_agree, single_unit, unit_if, is_passed};
+ghost use Rattle.std.specs.Prelude.{◌≡◌, ◌≤◌, ◌<◌, suc, Some, None, true};
+ghost use Rattle.vcm_plain.specs.Units.{micrometres, unit_named, is_units, is_silent, set_by, opens_with, opening_unit, agrees, all_agree, is_passed, begins_block, ends_block, bends, depth_behind, is_straight, straight_from, all_in, lengths_if, lengths_of};
 ghost use Rattle.vcm_heads.specs.Rows.{words_of, row_in};
 ghost use Rattle.vcm_heads.specs.Heads.{behind_of, major_of, first_field};
 
@@ -33,8 +33,8 @@ impl Unit {
         }
     }
 
-    // The unit that a word of UNITS names.
-    fn named(word: &[u8]) -> Option<Unit>
+    /// The unit that a word of UNITS names.
+    pub(crate) fn named(word: &[u8]) -> Option<Unit>
         ensures { result ≡ unit_named word.now }
     {
         look_up(
@@ -48,6 +48,25 @@ impl Unit {
             ],
             word,
         )
+    }
+}
+
+/// How lengths of a text are read: the unit that they begin with, and whether each UNITS sets that of those behind it.
+#[derive(Clone, Copy, PartialEq, Eq)]
+pub struct Lengths {
+    pub unit: Unit,
+    pub several: bool,
+}
+
+impl Lengths {
+    /// Lengths of one unit.
+    pub fn all_in(unit: Unit) -> Lengths
+        ensures { result ≡ all_in unit }
+    {
+        Lengths {
+            unit,
+            several: false,
+        }
     }
 }
 
@@ -144,12 +163,96 @@ fn all_agree(unit: Unit, lines: &[Logical]) -> bool
     lines.iter().all(|logical| agrees(unit, logical))
 }
 
-/// The unit of a text: that of its first statement that isn't silent, where each UNITS sets this unit; else millimetres.
-pub fn single_unit(lines: &[Logical]) -> Unit
-    ensures { result ≡ single_unit lines.now }
+// Whether a statement begins a block, by its major word.
+fn begins_block(major: &[u8]) -> bool
+    ensures { result ≡ begins_block major.now }
+{
+    look_up(&[(b"IF", true), (b"DO", true), (b"SELECT", true)], major).unwrap_or(false)
+}
+
+// Whether it ends one.
+fn ends_block(major: &[u8]) -> bool
+    ensures { result ≡ ends_block major.now }
+{
+    look_up(
+        &[(b"ENDIF", true), (b"ENDDO", true), (b"ENDSEL", true)],
+        major,
+    )
+    .unwrap_or(false)
+}
+
+// Whether what stands below in writing may be carried out before, or more than once.
+fn bends(major: &[u8]) -> bool
+    ensures { result ≡ bends major.now }
+{
+    look_up(
+        &[(b"MACRO", true), (b"JUMPTO", true), (b"ITERAT", true)],
+        major,
+    )
+    .unwrap_or(false)
+}
+
+// How many blocks are open behind a statement.
+fn depth_behind(depth: usize, major: &[u8]) -> usize
+    requires { depth < 9223372036854775808 }
+    ensures is { result ≡ depth_behind depth major.now }
+    ensures most { result ≤ suc depth }
+{
+    if begins_block(major) {
+        depth + 1
+    } else if ends_block(major) {
+        depth.saturating_sub(1)
+    } else {
+        depth
+    }
+}
+
+// Whether a statement, with so many blocks open, lets the units of a text be carried out as they are written.
+#[tactic(auto, unfolding(crate::specs::Units::is_straight))]
+fn is_straight(depth: usize, logical: &Logical) -> bool
+    ensures { result ≡ is_straight depth logical.now }
+{
+    let words = Phrase::of(logical);
+    let (major, _) = major_at(&words);
+    !(bends(major) || (is_units(row_in(&words, major)) && depth != 0))
+}
+
+// The major word of a statement leaves so many blocks open.
+fn open_behind(depth: usize, logical: &Logical) -> usize
+    requires { depth < 9223372036854775808 }
+    ensures is { result ≡ depth_behind depth (major_of (words_of logical.now)) }
+    ensures most { result ≤ suc depth }
+{
+    let words = Phrase::of(logical);
+    let (major, _) = major_at(&words);
+    depth_behind(depth, major)
+}
+
+// Whether all statements let them.
+fn all_straight(lines: &[Logical]) -> bool
+    ensures { result ≡ straight_from 0 lines.now }
+{
+    let mut depth = 0;
+    for logical in lines {
+        if !is_straight(depth, logical) {
+            return false;
+        }
+        depth = open_behind(depth, logical);
+    }
+    true
+}
+
+/// The lengths of a text: those of the unit of its first statement that isn't silent, where each UNITS sets this unit; where they set several, outside of blocks and
+/// in a text without macros and jumps, each behind its UNITS; else millimetres.
+pub fn lengths_of(lines: &[Logical]) -> Lengths
+    ensures { result ≡ lengths_of lines.now }
 {
     match opening_unit(lines) {
-        Some(unit) if all_agree(unit, lines) => unit,
-        _ => Unit::Millimetre,
+        Some(unit) if all_agree(unit, lines) => Lengths::all_in(unit),
+        Some(unit) if all_straight(lines) => Lengths {
+            unit,
+            several: true,
+        },
+        _ => Lengths::all_in(Unit::Millimetre),
     }
 }

@@ -193,6 +193,33 @@ slant_at behind = do
   d ← direction_at p.1
   slanted_by p.0 d
 
+-- ---- planes
+
+-- a place and the axis that a direction goes along, if it does
+abbrev pub along_axis : Coordinates → Option Axis → Option (Coordinates × Axis)
+along_axis p None = None
+along_axis p (Some axis) = Some (p, axis)
+
+-- the fields behind the word PLANE, without the word CART that they may begin with
+abbrev pub behind_plane : List Lexeme → Option (List Lexeme)
+behind_plane behind = do
+  fields ← past marks.Slash behind
+  rest ← past_word (codes "PLANE") fields
+  place ← past marks.Comma rest
+  Some (found_or place (behind_cart place))
+
+-- the place and the axis of FEAT/PLANE,CART,x,y,z,i,j,k
+abbrev pub plane_at : List Lexeme → Option (Coordinates × Axis)
+plane_at behind = do
+  p ← place_at (behind_plane behind)
+  d ← direction_at p.1
+  along_axis p.0 (axis_of d)
+
+-- the same, where it is asked for
+abbrev pub plane_if : Bool → List Lexeme → Option (Coordinates × Axis)
+plane_if true behind = plane_at behind
+plane_if false behind = None
+
 -- ---- tables and heads
 
 -- whether a word speaks of a rotary table

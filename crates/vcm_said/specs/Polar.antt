@@ -1,5 +1,5 @@
 -- Polar places: a radius, an angle and a height, with cosines as whole numbers.
-use Rattle.std.specs.Prelude.{ℕ, ℤ, pos, ◌+◌, ◌-◌, ◌*◌, ◌/◌, ◌%◌, ◌==◌, ◌-ℤ◌, int_le, nat_le, unsigned_abs, ◌&&◌, Bool, true, false, codes, if◌then◌else◌, List, [], ◌∷◌, Option, Some, None}
+use Rattle.std.specs.Prelude.{ℕ, ℤ, pos, ◌+◌, ◌-◌, ◌*◌, ◌/◌, ◌%◌, ◌==◌, ◌-ℤ◌, int_le, unsigned_abs, ◌&&◌, Bool, true, false, codes, if◌then◌else◌, List, [], ◌∷◌, Option, Some, None}
 use Rattle.vcm_num.specs.declared.axis.Axis.{Axis}
 use Rattle.vcm_num.specs.declared.axis.Axis.TheVariants.{PlusZ, MinusZ}
 use Rattle.vcm_num.specs.declared.number.Literal.{Literal}
@@ -13,54 +13,13 @@ use Rattle.vcm_expr.specs.Source.{parts}
 use Rattle.vcm_forms.specs.declared.statement.Coordinates.{Coordinates}
 use Rattle.vcm_forms.specs.declared.statement.Form.{Form}
 use Rattle.vcm_forms.specs.declared.statement.Form.TheVariants.{Move, Touch}
+use Rattle.vcm_functions.specs.Cosines.{cosine, part_of}
 use Rattle.vcm_plain.specs.Numbers.{millionths_in}
 use Rattle.vcm_events.specs.Joined.{length_of}
 use Rattle.vcm_heads.specs.declared.heads.Mark.TheVariants as marks
 use Rattle.vcm_heads.specs.Steps.{◌>>=◌}
 use Rattle.vcm_heads.specs.Heads.{past, past_word}
 use Rattle.vcm_said.specs.Places.{expression_at, direction_at, axis_of}
-
--- ---- cosines
-
--- a cosine counts in parts of which one has 4294967296; the most that there are stands for one itself
-abbrev pub most_parts : ℕ
-most_parts = 4294967295
-
--- a part of a part
-abbrev pub product : ℕ → ℕ → ℕ
-product a b = (a * b) / 4294967296
-
--- one less the square of an angle by a number, by what comes behind it in the series
-abbrev pub one_less : ℕ → ℕ → ℕ → ℕ
-one_less square n behind = most_parts - product square behind / n
-
--- the cosine of an angle by its square: 1 - x²/2 + x⁴/24 - .., up to the twelfth power
-abbrev pub cosine_by : ℕ → ℕ
-cosine_by s = one_less s 2 (one_less s 12 (one_less s 30 (one_less s 56 (one_less s 90 (one_less s 132 most_parts)))))
-
--- its sine by the angle itself: 1 - x²/6 + x⁴/120 - .., up to the twelfth power
-abbrev pub sine_by : ℕ → ℕ
-sine_by s = one_less s 6 (one_less s 20 (one_less s 42 (one_less s 72 (one_less s 110 (one_less s 156 most_parts)))))
-
--- the length of the arc of an angle up to 45 degrees, in millionths of a degree
-abbrev pub arc : ℕ → ℕ
-arc a = (a * 74961320581) / 1000000000
-
--- the cosine of such an angle
-abbrev pub small_cosine : ℕ → ℕ
-small_cosine a = cosine_by (product (arc a) (arc a))
-
--- and its sine
-abbrev pub small_sine : ℕ → ℕ
-small_sine a = product (arc a) (sine_by (product (arc a) (arc a)))
-
--- the cosine of an angle up to 90 degrees: of a large one the sine of what is left
-abbrev pub cosine : ℕ → ℕ
-cosine a = if nat_le a 45000000 then small_cosine a else small_sine (90000000 - a)
-
--- a length by parts, to the nearest micrometre
-abbrev pub part_of : ℕ → ℕ → ℕ
-part_of r c = (r * c + 2147483648) / 4294967296
 
 -- ---- places
 

@@ -1,7 +1,8 @@
 -- What each statement of a producer's text says.
-use Rattle.std.specs.Prelude.{ℕ, pos, codes, Bool, true, false, if◌then◌else◌, List, [], ◌∷◌, Option, Some, None, Result, Ok, Err, ◌++◌, ◌||◌}
+use Rattle.std.specs.Prelude.{ℕ, pos, codes, Bool, true, false, if◌then◌else◌, List, [], ◌∷◌, Option, Some, None, Result, Ok, Err, ◌++◌, ◌||◌, ◌&&◌}
 use Rattle.std.specs.List.{list_any}
 use Rattle.std.specs.Str.{bytes_eq}
+use Rattle.vcm_num.specs.declared.axis.Axis.{Axis}
 use Rattle.vcm_num.specs.declared.axis.Axis.TheVariants.{PlusZ}
 use Rattle.vcm_num.specs.declared.number.Literal.TheVariants.{Int}
 use Rattle.vcm_spec.specs.declared.words.FrameAxis.TheVariants as axes
@@ -37,7 +38,9 @@ use Rattle.vcm_events.specs.declared.spots.Spot.TheVariants as spots
 use Rattle.vcm_events.specs.Spots.{spotted}
 use Rattle.vcm_said.specs.Polar.{polar_motion, polar_touch}
 use Rattle.vcm_said.specs.Cases.{values_of, case_said}
-use Rattle.vcm_said.specs.Places.{place_given, step_at, slant_at, names_table, names_head}
+use Rattle.vcm_said.specs.Places.{place_given, step_at, slant_at, plane_if, names_table, names_head}
+use Rattle.vcm_said.specs.Named.{deleted, stored, recalled, remade, values_said}
+use Rattle.vcm_said.specs.Settings.{settings_by}
 
 -- ---- what isn't known
 
@@ -79,6 +82,14 @@ abbrev pub value_lost : Option (List ℕ × List Lexeme) → List Form
 value_lost None = []
 value_lost (Some v) = if is_variable_name v.0 then one (Assignment (as_read v.0) unknown) else []
 
+-- the word behind the first field
+abbrev pub second_field_at : List Lexeme → Option (List ℕ × List Lexeme)
+second_field_at behind = do
+  fields ← past marks.Slash behind
+  first ← run_at fields
+  rest ← past marks.Comma first.1
+  run_at rest
+
 -- an answer of the operator isn't known
 abbrev pub answer_lost : Option (List ℕ × List Lexeme) → List Form
 answer_lost None = one (lost events.Values)
@@ -99,15 +110,24 @@ text_lost word ws =
     else if bytes_eq word (codes "MAN") then one (lost events.Place)
     else []
 
--- a CALL; of one that isn't of the language it isn't known what it does
-abbrev pub call_said : Option Form → List Form
-call_said None = one (lost events.All)
-call_said (Some f) = one f
+-- whether a CALL is one of another process, which reaches neither names, nor frames, nor modes: CALL/EXTERN,SYS
+abbrev pub is_outside : List Lexeme → Bool
+is_outside behind = bytes_eq (first_field behind) (codes "EXTERN") && bytes_eq (word_in (second_field_at behind)) (codes "SYS")
 
--- a feature of another kind than points along an axis
-abbrev pub feature_lost : Option (List ℕ × List Lexeme) → List Form
-feature_lost None = one (lost events.Features)
-feature_lost (Some l) = if is_name l.0 then one (Feature l.0 unknown_place PlusZ) else one (lost events.Features)
+-- a CALL; of one that isn't of the language it isn't known what it does, but that of another process
+abbrev pub call_said : Bool → Option Form → List Form
+call_said outside None = if outside then [] else one (lost events.All)
+call_said outside (Some f) = one f
+
+-- a feature of another kind than points: a plane along an axis has its place and direction, of others nothing is known
+abbrev pub featured : List ℕ → Option (Coordinates × Axis) → Form
+featured l None = Feature l unknown_place PlusZ
+featured l (Some p) = Feature l p.0 p.1
+
+-- the same under its name
+abbrev pub feature_lost : Option (Coordinates × Axis) → Option (List ℕ × List Lexeme) → List Form
+feature_lost p None = one (lost events.Features)
+feature_lost p (Some l) = if is_name l.0 then one (featured l.0 p) else one (lost events.Features)
 
 -- the feature of a measurement, and the words behind it: MEAS/kind,F(l)
 abbrev pub measured_at : List Lexeme → Option (List ℕ × List Lexeme)
@@ -137,32 +157,13 @@ qualified word =
 
 -- a setting of the probe; DEPTH is about points of the machine's own
 abbrev pub setting_said : Form → List Form
-setting_said (Configure Depth e) = []
+setting_said (Configure Depth e) = one (gained events.Depth)
 setting_said f = one f
 
--- settings that aren't known: those of a clearance surface, or all
-abbrev pub settings_lost : List ℕ → List Form
-settings_lost word =
-    if bytes_eq word (codes "CLRSRF") then one (lost events.Clearance)
-    else lost events.Approach ∷ lost events.Search ∷ lost events.Retract ∷ lost events.Clearance ∷ []
-
--- the fields of SNSET/CLRSRF,OFF
-abbrev pub is_clearance_off : List Lexeme → Option (List Lexeme)
-is_clearance_off ws = do
-  fields ← past marks.Slash ws
-  r ← past_word (codes "CLRSRF") fields
-  c ← past marks.Comma r
-  past_word (codes "OFF") c
-
--- settings that aren't one of the language
-abbrev pub settings_otherwise : Option (List Lexeme) → List ℕ → List Form
-settings_otherwise (Some ws) word = one (gained events.Clearance)
-settings_otherwise None word = settings_lost word
-
--- SNSET
+-- SNSET: one setting of the language, or the pairs that it has
 abbrev pub settings_said : Option Form → List Lexeme → List Form
 settings_said (Some f) ws = setting_said f
-settings_said None ws = settings_otherwise (is_clearance_off ws) (first_field ws)
+settings_said None ws = settings_by (past marks.Slash ws)
 
 -- the machine's frame, under a name
 abbrev pub machine_frame : List ℕ → List Form
@@ -179,6 +180,10 @@ frame_otherwise word (Some l) =
     if is_name l.0 then (if bytes_eq word (codes "MCS") then machine_frame l.0 else frame_lost l.0)
     else lost events.Frame ∷ lost events.Frames ∷ []
 
+-- a frame that is fitted in rounds, which go back to a statement above: they aren't tried, and what they measure, make and set isn't known
+abbrev pub fitted : Option (List ℕ × List Lexeme) → List Form
+fitted l = gained events.Untried ∷ lost events.Values ∷ lost events.Features ∷ lost events.Frames ∷ frame_otherwise [] l
+
 -- the frame of RECALL/DA(l)
 abbrev pub datum_at : List Lexeme → Option (List ℕ × List Lexeme)
 datum_at ws = do
@@ -186,20 +191,20 @@ datum_at ws = do
   title_at (codes "DA") fields
 
 -- what RECALL of another thing than a frame does
-abbrev pub recall_lost : List ℕ → List Form
-recall_lost word =
-    if bytes_eq word (codes "S") then []
+abbrev pub recall_lost : List ℕ → List Lexeme → List Form
+recall_lost word behind =
+    if bytes_eq word (codes "F") then recalled events.DropFeature (codes "F") (past marks.Slash behind)
+    else if bytes_eq word (codes "FA") then recalled events.Remake (codes "FA") (past marks.Slash behind)
+    else if bytes_eq word (codes "S") then []
     else if bytes_eq word (codes "SA") then []
-    else if bytes_eq word (codes "F") then one (lost events.Features)
-    else if bytes_eq word (codes "FA") then one (lost events.Features)
     else if bytes_eq word (codes "D") then lost events.Frame ∷ lost events.Frames ∷ []
     else one (lost events.All)
 
 -- RECALL/DA(l) with nothing behind it is RECALL/D(l)
-abbrev pub recall_otherwise : Option (List ℕ × List Lexeme) → List ℕ → List Form
-recall_otherwise (Some (l, [])) word = if is_name l then one (Restore l) else one (lost events.Frame)
-recall_otherwise (Some l) word = lost events.Frame ∷ lost events.Frames ∷ []
-recall_otherwise None word = recall_lost word
+abbrev pub recall_otherwise : Option (List ℕ × List Lexeme) → List Lexeme → List Form
+recall_otherwise (Some (l, [])) behind = if is_name l then one (Restore l) else one (lost events.Frame)
+recall_otherwise (Some l) behind = lost events.Frame ∷ lost events.Frames ∷ []
+recall_otherwise None behind = recall_lost (first_field behind) behind
 
 -- what the words of a motion that isn't tried may do besides: turn a table, or the head
 abbrev pub turning : List Lexeme → List Form
@@ -256,70 +261,72 @@ mode_said word =
     else if bytes_eq word (codes "AUTO") then gained events.Mode ∷ lost events.OwnPoints ∷ []
     else one (lost events.Mode)
 
--- the word behind the first field
-abbrev pub second_field_at : List Lexeme → Option (List ℕ × List Lexeme)
-second_field_at behind = do
-  fields ← past marks.Slash behind
-  first ← run_at fields
-  rest ← past marks.Comma first.1
-  run_at rest
-
 -- units: the first word is that of lengths, the second one that of angles
 abbrev pub units_said : List Lexeme → List Form
 units_said behind =
     turns events.Unit (bytes_eq (first_field behind) (codes "MM"))
     ∷ turns events.Angle (bytes_eq (word_in (second_field_at behind)) (codes "ANGDEC")) ∷ []
 
--- a frame that is saved on a device
-abbrev pub saved : List ℕ → List Form
-saved word =
-    if bytes_eq word (codes "D") then one (gained events.Saving)
-    else if bytes_eq word (codes "DA") then one (gained events.Saving)
+-- how the controller goes on: by a command of its own it may do anything, and it may stop for good
+abbrev pub switched : List ℕ → List Form
+switched word =
+    if bytes_eq word (codes "COMAND") then one (lost events.All)
+    else if bytes_eq word (codes "ABORT") then one (gained events.Ends)
     else []
+
+-- carriages one behind the other, or apart, are as without the word; else anything may have changed
+abbrev pub carried : List ℕ → List Form
+carried word =
+    if bytes_eq word (codes "SEQNTL") then []
+    else if bytes_eq word (codes "OFF") then []
+    else one (lost events.All)
 
 -- ---- each statement
 
--- what a statement says by its row: the statement of the language that it is, if it is one, its line, all its words, and those behind the major word
-abbrev pub row_said : Row → Option Form → ℕ → (ws behind : List Lexeme) → List Form
-row_said row.Shape f line ws behind = stated f
-row_said row.Case f line ws behind = case_said f (values_of ws)
-row_said row.Datum f line ws behind = one (gained events.Bind)
-row_said row.Stated f line ws behind = stated f
-row_said row.Output f line ws behind = or_said f (report_at (past marks.Slash behind))
-row_said row.Value f line ws behind = or_said f (value_lost (assigned_at ws))
-row_said row.Motion f line ws behind = or_said f (polar_or (polar_motion behind) events.PolarMotion (motion_otherwise (step_at behind) behind))
-row_said row.Aim f line ws behind = one (spotted spots.Target (place_given behind))
-row_said row.Target f line ws behind = one (gained events.Target)
-row_said row.Touch f line ws behind = or_said f (polar_or (polar_touch behind) events.PolarPoint (touch_otherwise (slant_at behind) behind))
-row_said row.Scan f line ws behind = one (gained events.UntriedPoint)
-row_said row.Text f line ws behind = or_said f (text_lost (first_field behind) behind)
-row_said row.Test f line ws behind = or_said f (one (Test unknown))
-row_said row.Loop f line ws behind = or_said f (one (Repeat unknown_rounds))
-row_said row.Choice f line ws behind = or_said f (one (Choose unknown))
-row_said row.Call f line ws behind = call_said f
-row_said row.Feature f line ws behind = or_said f (feature_lost (title_at (codes "F") ws))
-row_said row.Measure f line ws behind = or_said f (measure_lost (measured_at behind))
-row_said row.MeasureEnd f line ws behind = one MeasureEnd
-row_said row.Qualification f line ws behind = qualified (first_field behind)
-row_said row.Settings f line ws behind = settings_said f behind
-row_said row.Frame f line ws behind = or_said f (frame_otherwise (first_field behind) (title_at (codes "D") ws))
-row_said row.Fit f line ws behind = one (lost events.All)
-row_said row.Recall f line ws behind = or_said f (recall_otherwise (datum_at behind) (first_field behind))
-row_said row.Save f line ws behind = saved (first_field behind)
-row_said row.Delete f line ws behind = lost events.Frames ∷ lost events.Features ∷ []
-row_said row.Mode f line ws behind = mode_said (first_field behind)
-row_said row.Units f line ws behind = units_said behind
-row_said row.Scanning f line ws behind = one (turns events.Scanning (bytes_eq (first_field behind) (codes "OFF")))
-row_said row.Table f line ws behind = one (lost events.Table)
-row_said row.Compensation f line ws behind = one (turns events.Compensation (bytes_eq (first_field behind) (codes "ON")))
-row_said row.Plane f line ws behind = one (turns events.Plane (bytes_eq (first_field behind) (codes "XYPLAN")))
-row_said row.Sensor f line ws behind = sensor_said (is_plain_sensor (past marks.Slash behind)) line
-row_said row.From f line ws behind = one (spotted spots.Home (place_given behind))
-row_said row.Values f line ws behind = lost events.Values ∷ lost events.Features ∷ []
-row_said row.Features f line ws behind = one (lost events.Features)
-row_said row.Silent f line ws behind = []
-row_said row.Other f line ws behind = one (lost events.All)
+-- what a statement says by its row: whether planes have their place and direction, the statement of the language that it is, if it is one, its line, all its words,
+-- and those behind the major word
+abbrev pub row_said : Bool → Row → Option Form → ℕ → (ws behind : List Lexeme) → List Form
+row_said planes row.Shape f line ws behind = stated f
+row_said planes row.Case f line ws behind = case_said f (values_of ws)
+row_said planes row.Datum f line ws behind = one (gained events.Bind)
+row_said planes row.Stated f line ws behind = stated f
+row_said planes row.Output f line ws behind = or_said f (report_at (past marks.Slash behind))
+row_said planes row.Value f line ws behind = or_said f (value_lost (assigned_at ws))
+row_said planes row.Motion f line ws behind = or_said f (polar_or (polar_motion behind) events.PolarMotion (motion_otherwise (step_at behind) behind))
+row_said planes row.Aim f line ws behind = one (spotted spots.Target (place_given behind))
+row_said planes row.Target f line ws behind = one (gained events.Target)
+row_said planes row.Touch f line ws behind = or_said f (polar_or (polar_touch behind) events.PolarPoint (touch_otherwise (slant_at behind) behind))
+row_said planes row.Scan f line ws behind = one (gained events.UntriedPoint)
+row_said planes row.Text f line ws behind = or_said f (text_lost (first_field behind) behind)
+row_said planes row.Test f line ws behind = or_said f (one (Test unknown))
+row_said planes row.Loop f line ws behind = or_said f (one (Repeat unknown_rounds))
+row_said planes row.Choice f line ws behind = or_said f (one (Choose unknown))
+row_said planes row.Call f line ws behind = call_said (is_outside behind) f
+row_said planes row.Feature f line ws behind = or_said f (feature_lost (plane_if planes behind) (title_at (codes "F") ws))
+row_said planes row.Measure f line ws behind = or_said f (measure_lost (measured_at behind))
+row_said planes row.MeasureEnd f line ws behind = one MeasureEnd
+row_said planes row.Qualification f line ws behind = qualified (first_field behind)
+row_said planes row.Settings f line ws behind = settings_said f behind
+row_said planes row.Frame f line ws behind = or_said f (frame_otherwise (first_field behind) (title_at (codes "D") ws))
+row_said planes row.Fit f line ws behind = fitted (title_at (codes "D") ws)
+row_said planes row.Recall f line ws behind = or_said f (recall_otherwise (datum_at behind) behind)
+row_said planes row.Save f line ws behind = stored (past marks.Slash behind)
+row_said planes row.Delete f line ws behind = deleted (past marks.Slash behind)
+row_said planes row.Mode f line ws behind = mode_said (first_field behind)
+row_said planes row.Units f line ws behind = units_said behind
+row_said planes row.Scanning f line ws behind = one (turns events.Scanning (bytes_eq (first_field behind) (codes "OFF")))
+row_said planes row.Table f line ws behind = one (lost events.Table)
+row_said planes row.Compensation f line ws behind = one (turns events.Compensation (bytes_eq (first_field behind) (codes "ON")))
+row_said planes row.Plane f line ws behind = one (turns events.Plane (bytes_eq (first_field behind) (codes "XYPLAN")))
+row_said planes row.Sensor f line ws behind = sensor_said (is_plain_sensor (past marks.Slash behind)) line
+row_said planes row.From f line ws behind = one (spotted spots.Home (place_given behind))
+row_said planes row.Values f line ws behind = values_said (major_of ws) ws
+row_said planes row.Features f line ws behind = remade (title_at (codes "F") ws)
+row_said planes row.Switch f line ws behind = switched (first_field behind)
+row_said planes row.Carriage f line ws behind = carried (first_field behind)
+row_said planes row.Silent f line ws behind = []
+row_said planes row.Other f line ws behind = one (lost events.All)
 
 -- what a statement on this line says
-abbrev pub said : ℕ → List Lexeme → List Form
-said line ws = row_said (row_in ws) (spelled_in (statement_of ws)) line ws (behind_of ws)
+abbrev pub said : Bool → ℕ → List Lexeme → List Form
+said planes line ws = row_said planes (row_in ws) (spelled_in (statement_of ws)) line ws (behind_of ws)

@@ -1,11 +1,12 @@
 -- Worked examples: what statements say, row by row of the table, computed.
-use Rattle.std.specs.Prelude.{◌≡◌, refl, ℕ, pos, negsuc, Some, List, [], ◌∷◌, ◌++◌, codes}
+use Rattle.std.specs.Prelude.{◌≡◌, refl, ℕ, pos, negsuc, Some, List, [], ◌∷◌, ◌++◌, codes, true, false}
 use Rattle.vcm_num.specs.declared.axis.Axis.TheVariants.{PlusZ}
 use Rattle.vcm_num.specs.declared.number.Literal.TheVariants.{Int, Thousandths}
 use Rattle.vcm_spec.specs.declared.words.FrameAxis.TheVariants as axes
-use Rattle.vcm_spec.specs.declared.words.Setting.TheVariants.{Approach}
+use Rattle.vcm_spec.specs.declared.words.Setting.TheVariants.{Approach, Retract}
 use Rattle.vcm_spec.specs.declared.words.Source.TheVariants.{Actual}
-use Rattle.vcm_lines.specs.Lexemes.{Lexeme, Run, Number as Digits, Slash, Comma, Equals, Open, Close, Minus, Quoted}
+use Rattle.vcm_lines.specs.Lexemes.{Lexeme, Run, Number as Digits, Slash, Comma, Equals, Open, Close, Minus, Quoted, Other}
+use Rattle.vcm_events.specs.Datums.{happens_to}
 use Rattle.vcm_expr.specs.declared.expression.Term.TheVariants.{Number}
 use Rattle.vcm_expr.specs.Source.{Source, Plain}
 use Rattle.vcm_expr.specs.Parsing.{read_symbols}
@@ -22,11 +23,16 @@ use Rattle.vcm_events.specs.declared.spots.Spot.TheVariants as spots
 use Rattle.vcm_events.specs.Spots.{spotted, slanted}
 use Rattle.vcm_said.specs.Polar.{along, across}
 use Rattle.vcm_said.specs.Cases.{values_onto}
+use Rattle.vcm_said.specs.Settings.{pairs_said}
 use Rattle.vcm_said.specs.Said.{said}
 
 -- what words say on line 9
 abbrev pub says : List Lexeme → List Form
-says ws = said 9 ws
+says ws = said false 9 ws
+
+-- what they say in a text with points that have no direction of their own
+abbrev pub says_planes : List Lexeme → List Form
+says_planes ws = said true 9 ws
 
 -- letters and digits
 abbrev pub word : List ℕ → Lexeme
@@ -234,8 +240,11 @@ pub table_qualified : says (word (codes "CALIB") ∷ Slash ∷ word (codes "RTAB
     ≡ gained events.Untried ∷ lost events.Qualification ∷ lost events.Features ∷ lost events.Table ∷ []
 table_qualified = refl
 
-pub constructed : says (pair (codes "CONST") (codes "CIRCLE")) ≡ lost events.Features ∷ []
+pub constructed : says (titled (codes "F") (Equals ∷ pair (codes "CONST") (codes "CIRCLE"))) ≡ happens_to events.Remake (codes "A") ∷ []
 constructed = refl
+
+pub constructed_otherwise : says (pair (codes "CONST") (codes "CIRCLE")) ≡ lost events.Features ∷ []
+constructed_otherwise = refl
 
 -- ---- settings and sensors
 
@@ -243,21 +252,27 @@ pub approach : says (word (codes "SNSET") ∷ Slash ∷ word (codes "APPRCH") �
 unfolding statement_of read_symbols read_of
 approach = refl
 
-pub depth : says (word (codes "SNSET") ∷ Slash ∷ word (codes "DEPTH") ∷ Comma ∷ word (codes "2") ∷ []) ≡ []
+pub depth : says (word (codes "SNSET") ∷ Slash ∷ word (codes "DEPTH") ∷ Comma ∷ word (codes "2") ∷ []) ≡ gained events.Depth ∷ []
 unfolding statement_of read_symbols read_of
 depth = refl
 
 pub clearance : says (word (codes "SNSET") ∷ Slash ∷ word (codes "CLRSRF") ∷ Comma ∷ titled (codes "DAT") []) ≡ lost events.Clearance ∷ []
-unfolding statement_of read_symbols read_of
+unfolding statement_of read_symbols read_of pairs_said
 clearance = refl
 
 pub no_clearance : says (word (codes "SNSET") ∷ Slash ∷ word (codes "CLRSRF") ∷ Comma ∷ word (codes "OFF") ∷ []) ≡ gained events.Clearance ∷ []
-unfolding statement_of read_symbols read_of
+unfolding statement_of read_symbols read_of pairs_said
 no_clearance = refl
 
-pub other_setting : says (word (codes "SNSET") ∷ Slash ∷ word (codes "FOCUSN") ∷ [])
+-- several settings, and words for points of the machine's own
+pub settings : says (word (codes "SNSET") ∷ Slash ∷ word (codes "APPRCH") ∷ Comma ∷ word (codes "2") ∷ Comma ∷ word (codes "FOCUSN") ∷ Comma ∷ word (codes "RETRCT") ∷ Comma ∷ word (codes "3") ∷ [])
+    ≡ Configure Approach (whole 2) ∷ gained events.Depth ∷ Configure Retract (whole 3) ∷ []
+unfolding statement_of read_symbols read_of pairs_said
+settings = refl
+
+pub other_setting : says (word (codes "SNSET") ∷ Slash ∷ word (codes "SPIN") ∷ [])
     ≡ lost events.Approach ∷ lost events.Search ∷ lost events.Retract ∷ lost events.Clearance ∷ []
-unfolding statement_of read_symbols read_of
+unfolding statement_of read_symbols read_of pairs_said
 other_setting = refl
 
 pub selected : says (word (codes "SNSLCT") ∷ Slash ∷ titled (codes "S") []) ≡ event_form events.Sensor (pos 9) ∷ []
@@ -282,6 +297,20 @@ pub machine : says (titled (codes "D") (Equals ∷ pair (codes "DATSET") (codes 
 unfolding statement_of read_symbols read_of
 machine = refl
 
+-- a plane along an axis has its place and direction in a text with points that have none of their own
+abbrev pub plane_words : List Lexeme
+plane_words =
+    titled (codes "F") (Equals ∷ word (codes "FEAT") ∷ Slash ∷ word (codes "PLANE") ∷ Comma ∷ word (codes "CART") ∷ (fields (codes "1") (codes "2") (codes "3")
+    ++ fields (codes "0") (codes "0") (codes "1")))
+
+pub plane : says_planes plane_words ≡ Feature (codes "A") (record { x = whole 1; y = whole 2; z = whole 3 }) PlusZ ∷ []
+unfolding statement_of read_symbols read_of
+plane = refl
+
+pub plane_elsewhere : says plane_words ≡ Feature (codes "A") unknown_place PlusZ ∷ []
+unfolding statement_of read_symbols read_of
+plane_elsewhere = refl
+
 pub datums : says (titled (codes "D") (Equals ∷ word (codes "DATSET") ∷ Slash ∷ titled (codes "DAT") (Comma ∷ word (codes "ZDIR") ∷ [])))
     ≡ Shift (codes "A") [] ∷ []
 unfolding statement_of read_symbols read_of
@@ -295,7 +324,11 @@ pub datum_recalled : says (word (codes "RECALL") ∷ Slash ∷ titled (codes "DA
 unfolding statement_of read_symbols read_of
 datum_recalled = refl
 
-pub features_recalled : says (word (codes "RECALL") ∷ Slash ∷ titled (codes "F") []) ≡ lost events.Features ∷ []
+pub feature_recalled : says (word (codes "RECALL") ∷ Slash ∷ titled (codes "FA") []) ≡ happens_to events.Remake (codes "A") ∷ []
+unfolding statement_of read_symbols read_of
+feature_recalled = refl
+
+pub features_recalled : says (word (codes "RECALL") ∷ Slash ∷ titled (codes "F") []) ≡ happens_to events.DropFeature (codes "A") ∷ []
 unfolding statement_of read_symbols read_of
 features_recalled = refl
 
@@ -303,11 +336,26 @@ pub sensor_recalled : says (word (codes "RECALL") ∷ Slash ∷ titled (codes "S
 unfolding statement_of read_symbols read_of
 sensor_recalled = refl
 
-pub saved : says (word (codes "SAVE") ∷ Slash ∷ titled (codes "D") []) ≡ gained events.Saving ∷ []
-saved = refl
+pub stored : says (word (codes "SAVE") ∷ Slash ∷ titled (codes "D") []) ≡ happens_to events.StoreFrame (codes "A") ∷ []
+stored = refl
 
-pub deleted : says (word (codes "DELETE") ∷ Slash ∷ titled (codes "D") []) ≡ lost events.Frames ∷ lost events.Features ∷ []
-deleted = refl
+pub stored_elsewhere : says (word (codes "SAVE") ∷ Slash ∷ titled (codes "DA") (Comma ∷ titled (codes "DID") [])) ≡ happens_to events.StoreFrame (codes "A") ∷ []
+stored_elsewhere = refl
+
+pub stored_feature : says (word (codes "SAVE") ∷ Slash ∷ titled (codes "FA") []) ≡ []
+stored_feature = refl
+
+pub frame_deleted : says (word (codes "DELETE") ∷ Slash ∷ titled (codes "DA") []) ≡ happens_to events.DropFrame (codes "A") ∷ []
+frame_deleted = refl
+
+pub feature_deleted : says (word (codes "DELETE") ∷ Slash ∷ titled (codes "FA") []) ≡ happens_to events.DropFeature (codes "A") ∷ []
+feature_deleted = refl
+
+pub sensor_deleted : says (word (codes "DELETE") ∷ Slash ∷ titled (codes "S") []) ≡ []
+sensor_deleted = refl
+
+pub all_deleted : says (pair (codes "DELETE") (codes "ALLDAT")) ≡ lost events.Frames ∷ lost events.Features ∷ []
+all_deleted = refl
 
 -- ---- values and choices that aren't known
 
@@ -327,8 +375,23 @@ pub done_by_hand : says (word (codes "TEXT") ∷ Slash ∷ word (codes "MAN") �
 unfolding statement_of read_symbols read_of
 done_by_hand = refl
 
-pub values_read : says (word (codes "READ") ∷ Slash ∷ titled (codes "DID") (Comma ∷ word (codes "V") ∷ [])) ≡ lost events.Values ∷ lost events.Features ∷ []
+-- the variables that a statement names have values that aren't known, whatever words stand beside them
+pub values_read :
+    says (word (codes "READ") ∷ Slash ∷ titled (codes "DID") (Comma ∷ word (codes "V") ∷ []))
+    ≡ Assignment (as_read (codes "READ")) unknown ∷ Assignment (as_read (codes "DID")) unknown ∷ Assignment (as_read (codes "A")) unknown
+    ∷ Assignment (as_read (codes "V")) unknown ∷ []
 values_read = refl
+
+-- and the features that it names have other values
+pub feature_taken :
+    says (titled (codes "F") (Equals ∷ word (codes "XTRACT") ∷ []))
+    ≡ Assignment (as_read (codes "F")) unknown ∷ Assignment (as_read (codes "A")) unknown ∷ Assignment (as_read (codes "XTRACT")) unknown
+    ∷ happens_to events.DropFeature (codes "A") ∷ []
+feature_taken = refl
+
+-- a name that is a value may be any
+pub any_value : says (word (codes "READ") ∷ Slash ∷ Other ∷ word (codes "V") ∷ []) ≡ lost events.Values ∷ lost events.Features ∷ []
+any_value = refl
 
 pub unknown_test : says (word (codes "IF") ∷ Slash ∷ Open ∷ word (codes "SIN") ∷ Open ∷ word (codes "V") ∷ Close ∷ Close ∷ []) ≡ Test unknown ∷ []
 unfolding statement_of read_symbols read_of
@@ -348,7 +411,28 @@ pub other_program : says (word (codes "CALL") ∷ Slash ∷ word (codes "EXTERN"
 unfolding statement_of read_symbols read_of
 other_program = refl
 
-pub fitted : says (pair (codes "ITERAT") (codes "A")) ≡ lost events.All ∷ []
+-- another process reaches nothing of the machine
+pub process : says (word (codes "CALL") ∷ Slash ∷ word (codes "EXTERN") ∷ Comma ∷ word (codes "SYS") ∷ Comma ∷ Quoted (codes "DIR") ∷ []) ≡ []
+unfolding statement_of read_symbols read_of
+process = refl
+
+pub commanded : says (word (codes "DMESW") ∷ Slash ∷ word (codes "COMAND") ∷ Comma ∷ Quoted (codes "HOME") ∷ []) ≡ lost events.All ∷ []
+commanded = refl
+
+pub aborted : says (pair (codes "DMESW") (codes "ABORT")) ≡ gained events.Ends ∷ []
+aborted = refl
+
+pub paused : says (pair (codes "DMESW") (codes "PAUSE")) ≡ []
+paused = refl
+
+pub at_once : says (pair (codes "CRMODE") (codes "SIMUL")) ≡ lost events.All ∷ []
+at_once = refl
+
+pub in_turn : says (pair (codes "CRMODE") (codes "SEQNTL")) ≡ []
+in_turn = refl
+
+pub fitted : says (titled (codes "D") (Equals ∷ word (codes "ITERAT") ∷ Slash ∷ Open ∷ word (codes "L") ∷ Close ∷ []))
+    ≡ gained events.Untried ∷ lost events.Values ∷ lost events.Features ∷ lost events.Frames ∷ Shift (codes "A") [] ∷ []
 fitted = refl
 
 pub included : says (word (codes "INCLUD") ∷ Slash ∷ word (codes "DMIS") ∷ []) ≡ lost events.All ∷ []

@@ -4,9 +4,11 @@
 
 mod adding;
 mod cases;
+mod named;
 mod places;
 mod polar;
 mod said;
+mod settings;
 mod wanted;
 
 pub use said::{first_refusal, say_all};

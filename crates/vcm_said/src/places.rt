@@ -3,7 +3,7 @@
 ghost use Rattle.std.specs.Prelude.{◌≡◌, ◌+ℤ◌, ◌*ℤ◌, Some, None, IfOk, if◌then◌else◌};
 ghost use Rattle.vcm_lines.specs.Lexemes.{Run};
 ghost use Rattle.vcm_expr.specs.Parsing.{expr_of};
-ghost use Rattle.vcm_said.specs.Places.{read_in, expression_at, place_at, behind_cart, cartesian, lone_place, place_given, is_part, thousandths, component_behind, is_minus, negative, component_in, component_at, direction_at, are_none, axis_by, axis_of, come_to_one, is_unit, nothing, stepped, incremental, step_at, slanted_by, slant_at, is_table_word, names_table, is_head_word, names_head};
+ghost use Rattle.vcm_said.specs.Places.{read_in, expression_at, place_at, behind_cart, cartesian, lone_place, place_given, is_part, thousandths, component_behind, is_minus, negative, component_in, component_at, direction_at, are_none, axis_by, axis_of, come_to_one, is_unit, nothing, stepped, incremental, step_at, slanted_by, slant_at, along_axis, behind_plane, plane_at, is_table_word, names_table, is_head_word, names_head};
 
 use std::alloc::Global;
 use vcm_events::{Spot, slanted, spotted, unknown_place};
@@ -364,6 +364,38 @@ pub(crate) fn slant_at(alloc: Global, behind: &Phrase<'_>) -> Result<Option<Form
     match direction_at(alloc, rest)? {
         Some(direction) if is_unit(direction) => Ok(Some(slanted(alloc, place, direction)?)),
         _ => Ok(None),
+    }
+}
+
+// The fields behind the word PLANE, without the word CART that they may begin with.
+fn behind_plane<'a>(behind: &Phrase<'a>) -> Option<Phrase<'a>>
+    ensures { result ≡ behind_plane behind.now }
+{
+    let fields = past(Mark::Slash, behind)?;
+    let rest = past_word(b"PLANE", &fields)?;
+    let place = past(Mark::Comma, &rest)?;
+    match behind_cart(&place) {
+        Some(rest) => Some(rest),
+        None => Some(place),
+    }
+}
+
+/// The place and the axis of a plane that goes along one: of `FEAT/PLANE,CART,x,y,z,i,j,k`.
+pub(crate) fn plane_at(
+    alloc: Global,
+    behind: &Phrase<'_>,
+) -> Result<Option<(Coordinates, Axis)>, NoMemory>
+    ensures { IfOk result (λ p. p ≡ plane_at behind.now) }
+{
+    let Some((place, rest)) = place_at(alloc, behind_plane(behind))? else {
+        return Ok(None);
+    };
+    let Some(direction) = direction_at(alloc, rest)? else {
+        return Ok(None);
+    };
+    match axis_of(direction) {
+        Some(axis) => Ok(Some((place, axis))),
+        None => Ok(None),
     }
 }
 

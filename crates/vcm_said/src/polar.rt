@@ -3,102 +3,18 @@
 ghost use Rattle.std.specs.Prelude.{◌≡◌, ◌≤◌, ◌<◌, pos, IfOk, IfSome};
 ghost use Rattle.vcm_events.specs.Joined.{length_of};
 ghost use Rattle.vcm_lines.specs.Lexemes.{lexeme};
-ghost use Rattle.vcm_said.specs.Polar.{product, one_less, cosine_by, sine_by, arc, small_cosine, small_sine, cosine, part_of, along_quarter, along, across, radius_of, radius_in, signed_angle, word_millionths, angle_of, lone_millionths, angle_in, angle_at, polar_at, behind_polar, moved_to, polar_motion, touched_along, touched_toward, touched_at, polar_touch};
+ghost use Rattle.vcm_said.specs.Polar.{along_quarter, along, across, radius_of, radius_in, signed_angle, word_millionths, angle_of, lone_millionths, angle_in, angle_at, polar_at, behind_polar, moved_to, polar_motion, touched_along, touched_toward, touched_at, polar_touch};
 
 use crate::places::{axis_of, direction_at, expression_at};
 use std::alloc::Global;
 use vcm_events::length;
 use vcm_expr::{Expr, Piece};
 use vcm_forms::{Coordinates, Form};
+use vcm_functions::{cosine, part_of};
 use vcm_heads::{Mark, past, past_word};
 use vcm_lines::{Cutter, Phrase, Token};
 use vcm_num::{Axis, Literal, NoMemory};
 use vcm_plain::millionths_of;
-
-// ---- cosines
-
-/// What stands for one.
-const MOST_PARTS: u32 = 4_294_967_295;
-
-// A part of a part.
-fn product(a: u32, b: u32) -> u32
-    ensures { result ≡ product a b }
-{
-    ((u64::from(a) * u64::from(b)) / 4_294_967_296) as u32
-}
-
-// One less the square of an angle by a number, by what comes behind it in the series.
-fn one_less(square: u32, number: u32, behind: u32) -> u32
-    requires { 1 ≤ number }
-    ensures { result ≡ one_less square number behind }
-{
-    MOST_PARTS - product(square, behind) / number
-}
-
-// The cosine of an angle by its square.
-fn cosine_by(square: u32) -> u32
-    ensures { result ≡ cosine_by square }
-{
-    let tenth = one_less(square, 90, one_less(square, 132, MOST_PARTS));
-    let sixth = one_less(square, 30, one_less(square, 56, tenth));
-    one_less(square, 2, one_less(square, 12, sixth))
-}
-
-// Its sine by the angle itself.
-fn sine_by(square: u32) -> u32
-    ensures { result ≡ sine_by square }
-{
-    let tenth = one_less(square, 110, one_less(square, 156, MOST_PARTS));
-    let sixth = one_less(square, 42, one_less(square, 72, tenth));
-    one_less(square, 6, one_less(square, 20, sixth))
-}
-
-// The length of the arc of an angle up to 45 degrees, in millionths of a degree.
-fn arc(angle: u32) -> u32
-    requires { angle ≤ 45000000 }
-    ensures { result ≡ arc angle }
-{
-    ((u64::from(angle) * 74_961_320_581) / 1_000_000_000) as u32
-}
-
-// The cosine of such an angle.
-fn small_cosine(angle: u32) -> u32
-    requires { angle ≤ 45000000 }
-    ensures { result ≡ small_cosine angle }
-{
-    let arc = arc(angle);
-    cosine_by(product(arc, arc))
-}
-
-// And its sine.
-fn small_sine(angle: u32) -> u32
-    requires { angle ≤ 45000000 }
-    ensures { result ≡ small_sine angle }
-{
-    let arc = arc(angle);
-    product(arc, sine_by(product(arc, arc)))
-}
-
-// The cosine of an angle up to 90 degrees.
-fn cosine(angle: u32) -> u32
-    requires { angle ≤ 90000000 }
-    ensures { result ≡ cosine angle }
-{
-    if angle <= 45_000_000 {
-        small_cosine(angle)
-    } else {
-        small_sine(90_000_000 - angle)
-    }
-}
-
-// A length by parts, to the nearest micrometre.
-fn part_of(length: u32, parts: u32) -> i32
-    requires { length ≤ 10000000 }
-    ensures is { result ≡ pos (part_of length parts) }
-    ensures most { part_of length parts ≤ 10000000 }
-{
-    ((u64::from(length) * u64::from(parts) + 2_147_483_648) / 4_294_967_296) as i32
-}
 
 // ---- places
 

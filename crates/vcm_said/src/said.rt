@@ -4,7 +4,7 @@ ghost use Rattle.std.specs.Prelude.{◌≡◌, ◌++◌, ◌∷◌, [], map, ℤ
 ghost use Rattle.std.specs.Prelude.{codes, true, false, List, if◌then◌else◌};
 ghost use Rattle.vcm_events.specs.Spots.{spotted};
 ghost use Rattle.vcm_said.specs.Polar.{polar_motion, polar_touch};
-ghost use Rattle.vcm_said.specs.Places.{place_given, step_at, slant_at, names_table, names_head};
+ghost use Rattle.vcm_said.specs.Places.{place_given, step_at, slant_at, plane_if, names_table, names_head};
 ghost use Rattle.vcm_lines.specs.Lexemes.{Lexeme};
 ghost use Rattle.vcm_syntax.specs.Statements.{statement_of};
 ghost use Rattle.vcm_items.specs.NameBytes.{IsName};
@@ -16,19 +16,24 @@ ghost use Rattle.vcm_events.specs.Unknown.{unknown};
 ghost use Rattle.vcm_heads.specs.declared.heads.Mark.TheVariants as marks;
 ghost use Rattle.vcm_heads.specs.Heads.{past, first_field, assigned_at, title_at, word_in, major_of};
 ghost use Rattle.vcm_heads.specs.Rows.{row_in, words_of, own_behind};
-ghost use Rattle.vcm_said.specs.Said.{wanted_in, spelled_in, stated, or_said, value_lost, answer_lost, asked_at, text_lost, call_said, feature_lost, measured_at, measure_lost, qualified, setting_said, settings_lost, is_clearance_off, settings_otherwise, settings_said, machine_frame, frame_lost, frame_otherwise, datum_at, recall_lost, recall_otherwise, turning, motion_otherwise, touch_otherwise, is_lone_label, is_plain_sensor, sensor_said, reported, report_at, mode_said, second_field_at, units_said, polar_said, polar_or, saved, row_said, said};
+ghost use Rattle.vcm_said.specs.Said.{wanted_in, spelled_in, stated, or_said, value_lost, answer_lost, asked_at, text_lost, call_said, feature_lost, measured_at, measure_lost, qualified, setting_said, settings_said, machine_frame, frame_lost, frame_otherwise, fitted, datum_at, recall_lost, recall_otherwise, turning, motion_otherwise, touch_otherwise, is_lone_label, is_plain_sensor, sensor_said, reported, report_at, mode_said, second_field_at, units_said, polar_said, polar_or, is_outside, switched, carried, row_said, said};
 ghost use Rattle.vcm_said.specs.Cases.{is_shaping};
-ghost use Rattle.vcm_said.specs.All.{on_line, said_unless, said_from, said_all, shape_fault, refused_at, refused_from};
+ghost use Rattle.vcm_said.specs.Named.{deleted, stored, recalled, remade, values_said};
+ghost use Rattle.vcm_said.specs.Settings.{settings_by};
+ghost use Rattle.std.specs.List.{list_any};
+ghost use Rattle.vcm_said.specs.All.{on_line, said_unless, said_from, is_touch, spells_undirected, is_undirected, needs_planes, said_all, shape_fault, refused_at, refused_from};
 
 use crate::adding::{add, gains, loses, turns};
 use crate::cases::{say_several, values_of};
-use crate::places::{names_head, names_table, place_given, slant_at, step_at};
+use crate::named::{say_deleted, say_recalled, say_remade, say_stored, say_values};
+use crate::places::{names_head, names_table, place_given, plane_at, slant_at, step_at};
 use crate::polar::{polar_motion, polar_touch};
+use crate::settings::say_settings_by;
 use crate::wanted::wanted;
 use std::alloc::Global;
 use vcm_events::{Event, Spot, numbered, spotted, unknown, unknown_place, unknown_rounds, valued};
 use vcm_expr::{Expr, Term};
-use vcm_forms::{Form, Offset, Statement, Target};
+use vcm_forms::{Coordinates, Form, Offset, Statement, Target};
 use vcm_heads::{
     Mark, Row, assigned_at, first_field, label_at, major_at, own_behind, past, past_word, row_in,
     row_of_statement, run_at, title_at,
@@ -107,14 +112,39 @@ fn lose_text(out: &mut Vec<Statement>, line: u32, behind: &Phrase<'_>) -> Result
     }
 }
 
+// The place and the axis of a plane, where they are asked for.
+fn plane_if(
+    alloc: Global,
+    planes: bool,
+    behind: &Phrase<'_>,
+) -> Result<Option<(Coordinates, Axis)>, NoMemory>
+    ensures { IfOk result (λ p. p ≡ plane_if planes behind.now) }
+{
+    if planes {
+        plane_at(alloc, behind)
+    } else {
+        Ok(None)
+    }
+}
+
 // A feature of another kind than points along an axis.
-fn lose_feature(out: &mut Vec<Statement>, line: u32, words: &Phrase<'_>) -> Result<(), NoMemory>
-    ensures { OnOk result (out.new.items ≡ out.old.items ++ on_line line (feature_lost (title_at (codes "F") words.now))) }
+fn lose_feature(
+    alloc: Global,
+    out: &mut Vec<Statement>,
+    line: u32,
+    planes: bool,
+    words: &Phrase<'_>,
+    behind: &Phrase<'_>,
+) -> Result<(), NoMemory>
+    ensures { OnOk result (out.new.items ≡ out.old.items ++ on_line line (feature_lost (plane_if planes behind.now) (title_at (codes "F") words.now))) }
 {
     match title_at(b"F", words) {
         Some((label, _)) if is_name(label) => {
-            let form = Form::Feature(Name::new(label), unknown_place(), Axis::PlusZ);
-            add(out, line, form)
+            let (place, axis) = match plane_if(alloc, planes, behind)? {
+                Some(plane) => plane,
+                None => (unknown_place(), Axis::PlusZ),
+            };
+            add(out, line, Form::Feature(Name::new(label), place, axis))
         }
         _ => loses(out, line, Event::Features),
     }
@@ -185,31 +215,9 @@ fn say_qualification(
     }
 }
 
-// The fields of SNSET/CLRSRF,OFF.
-fn clearance_off<'a>(behind: &Phrase<'a>) -> Option<Phrase<'a>>
-    ensures { result ≡ is_clearance_off behind.now }
-{
-    let fields = past(Mark::Slash, behind)?;
-    let rest = past_word(b"CLRSRF", &fields)?;
-    let last = past(Mark::Comma, &rest)?;
-    past_word(b"OFF", &last)
-}
-
-// Settings that aren't known.
-fn lose_settings(out: &mut Vec<Statement>, line: u32, word: &[u8]) -> Result<(), NoMemory>
-    ensures { OnOk result (out.new.items ≡ out.old.items ++ on_line line (settings_lost word.now)) }
-{
-    if is(word, b"CLRSRF") {
-        return loses(out, line, Event::Clearance);
-    }
-    loses(out, line, Event::Approach)?;
-    loses(out, line, Event::Search)?;
-    loses(out, line, Event::Retract)?;
-    loses(out, line, Event::Clearance)
-}
-
 // SNSET.
 fn say_settings(
+    alloc: Global,
     out: &mut Vec<Statement>,
     line: u32,
     form: Option<Form>,
@@ -218,12 +226,9 @@ fn say_settings(
     ensures { OnOk result (out.new.items ≡ out.old.items ++ on_line line (settings_said form behind.now)) }
 {
     match form {
-        Some(Form::Configure(Setting::Depth, _)) => Ok(()),
+        Some(Form::Configure(Setting::Depth, _)) => gains(out, line, Event::Depth),
         Some(form) => add(out, line, form),
-        None => match clearance_off(behind) {
-            Some(_) => gains(out, line, Event::Clearance),
-            None => lose_settings(out, line, first_field(behind)),
-        },
+        None => say_settings_by(alloc, out, line, behind),
     }
 }
 
@@ -284,6 +289,21 @@ fn say_frame(
     }
 }
 
+// A frame that is fitted in rounds.
+fn say_fitted(
+    alloc: Global,
+    out: &mut Vec<Statement>,
+    line: u32,
+    words: &Phrase<'_>,
+) -> Result<(), NoMemory>
+    ensures { OnOk result (out.new.items ≡ out.old.items ++ on_line line (fitted (title_at (codes "D") words.now))) }
+{
+    gains(out, line, Event::Untried)?;
+    loses(out, line, Event::Values)?;
+    lose_both(out, line, Event::Features, Event::Frames)?;
+    say_frame(alloc, out, line, words, b"")
+}
+
 // The frame of RECALL/DA(l), and the words behind it.
 fn datum_at<'a>(behind: &Phrase<'a>) -> Option<(&'a [u8], Phrase<'a>)>
     ensures { option_map (λ r. (r.0.now, r.1)) result ≡ datum_at behind.now }
@@ -293,13 +313,20 @@ fn datum_at<'a>(behind: &Phrase<'a>) -> Option<(&'a [u8], Phrase<'a>)>
 }
 
 // RECALL of another thing than a frame.
-fn lose_recalled(out: &mut Vec<Statement>, line: u32, word: &[u8]) -> Result<(), NoMemory>
-    ensures { OnOk result (out.new.items ≡ out.old.items ++ on_line line (recall_lost word.now)) }
+fn lose_recalled(
+    out: &mut Vec<Statement>,
+    line: u32,
+    word: &[u8],
+    behind: &Phrase<'_>,
+) -> Result<(), NoMemory>
+    ensures { OnOk result (out.new.items ≡ out.old.items ++ on_line line (recall_lost word.now behind.now)) }
 {
-    if is(word, b"S") || is(word, b"SA") {
+    if is(word, b"F") {
+        say_recalled(out, line, Event::DropFeature, b"F", behind)
+    } else if is(word, b"FA") {
+        say_recalled(out, line, Event::Remake, b"FA", behind)
+    } else if is(word, b"S") || is(word, b"SA") {
         Ok(())
-    } else if is(word, b"F") || is(word, b"FA") {
-        loses(out, line, Event::Features)
     } else if is(word, b"D") {
         lose_both(out, line, Event::Frame, Event::Frames)
     } else {
@@ -309,10 +336,10 @@ fn lose_recalled(out: &mut Vec<Statement>, line: u32, word: &[u8]) -> Result<(),
 
 // RECALL that is none of the language.
 fn say_recall(out: &mut Vec<Statement>, line: u32, behind: &Phrase<'_>) -> Result<(), NoMemory>
-    ensures { OnOk result (out.new.items ≡ out.old.items ++ on_line line (recall_otherwise (datum_at behind.now) (first_field behind.now))) }
+    ensures { OnOk result (out.new.items ≡ out.old.items ++ on_line line (recall_otherwise (datum_at behind.now) behind.now)) }
 {
     match datum_at(behind) {
-        None => lose_recalled(out, line, first_field(behind)),
+        None => lose_recalled(out, line, first_field(behind), behind),
         Some((label, rest)) => match rest.split_first() {
             None => {
                 if is_name(label) {
@@ -341,14 +368,38 @@ fn say_mode(out: &mut Vec<Statement>, line: u32, word: &[u8]) -> Result<(), NoMe
     }
 }
 
-// SAVE.
-fn say_saved(out: &mut Vec<Statement>, line: u32, word: &[u8]) -> Result<(), NoMemory>
-    ensures { OnOk result (out.new.items ≡ out.old.items ++ on_line line (saved word.now)) }
+// How the controller goes on.
+fn say_switch(out: &mut Vec<Statement>, line: u32, word: &[u8]) -> Result<(), NoMemory>
+    ensures { OnOk result (out.new.items ≡ out.old.items ++ on_line line (switched word.now)) }
 {
-    if is(word, b"D") || is(word, b"DA") {
-        gains(out, line, Event::Saving)
+    if is(word, b"COMAND") {
+        loses(out, line, Event::All)
+    } else if is(word, b"ABORT") {
+        gains(out, line, Event::Ends)
     } else {
         Ok(())
+    }
+}
+
+// Carriages.
+fn say_carriage(out: &mut Vec<Statement>, line: u32, word: &[u8]) -> Result<(), NoMemory>
+    ensures { OnOk result (out.new.items ≡ out.old.items ++ on_line line (carried word.now)) }
+{
+    if is(word, b"SEQNTL") || is(word, b"OFF") {
+        Ok(())
+    } else {
+        loses(out, line, Event::All)
+    }
+}
+
+// A CALL that is none of the language.
+fn lose_call(out: &mut Vec<Statement>, line: u32, behind: &Phrase<'_>) -> Result<(), NoMemory>
+    ensures { OnOk result (out.new.items ≡ out.old.items ++ on_line line (if is_outside behind.now then [] else lost events.All ∷ [])) }
+{
+    if is(first_field(behind), b"EXTERN") && is(second_field(behind), b"SYS") {
+        Ok(())
+    } else {
+        loses(out, line, Event::All)
     }
 }
 
@@ -550,16 +601,25 @@ fn say_spot(
     add(out, line, spotted(spot, place_given(alloc, behind)?))
 }
 
+// READ, PROMPT and the like.
+fn lose_values(out: &mut Vec<Statement>, line: u32, words: &Phrase<'_>) -> Result<(), NoMemory>
+    ensures { OnOk result (out.new.items ≡ out.old.items ++ on_line line (values_said (major_of words.now) words.now)) }
+{
+    let (major, _) = major_at(words);
+    say_values(out, line, major, words)
+}
+
 // A statement that is none of the language, by its row.
 fn say_otherwise(
     alloc: Global,
     out: &mut Vec<Statement>,
     line: u32,
+    planes: bool,
     row: Row,
     words: &Phrase<'_>,
     behind: &Phrase<'_>,
 ) -> Result<(), NoMemory>
-    ensures { OnOk result (out.new.items ≡ out.old.items ++ on_line line (row_said row None line words.now behind.now)) }
+    ensures { OnOk result (out.new.items ≡ out.old.items ++ on_line line (row_said planes row None line words.now behind.now)) }
 {
     match row {
         Row::Shape | Row::Stated | Row::Silent => Ok(()),
@@ -576,15 +636,15 @@ fn say_otherwise(
         Row::Test => add(out, line, Form::Test(unknown())),
         Row::Loop => add(out, line, Form::Repeat(unknown_rounds())),
         Row::Choice => add(out, line, Form::Choose(unknown())),
-        Row::Feature => lose_feature(out, line, words),
+        Row::Feature => lose_feature(alloc, out, line, planes, words, behind),
         Row::Measure => lose_measure(alloc, out, line, behind),
         Row::MeasureEnd => add(out, line, Form::MeasureEnd),
         Row::Qualification => say_qualification(out, line, behind),
-        Row::Settings => say_settings(out, line, None, behind),
+        Row::Settings => say_settings(alloc, out, line, None, behind),
         Row::Frame => say_frame(alloc, out, line, words, first_field(behind)),
         Row::Recall => say_recall(out, line, behind),
-        Row::Save => say_saved(out, line, first_field(behind)),
-        Row::Delete => lose_both(out, line, Event::Frames, Event::Features),
+        Row::Save => say_stored(out, line, behind),
+        Row::Delete => say_deleted(out, line, behind),
         Row::Mode => say_mode(out, line, first_field(behind)),
         Row::Units => say_units(out, line, behind),
         Row::Scanning => turns(out, line, Event::Scanning, is(first_field(behind), b"OFF")),
@@ -598,9 +658,13 @@ fn say_otherwise(
         Row::Plane => turns(out, line, Event::Plane, is(first_field(behind), b"XYPLAN")),
         Row::Sensor => say_sensor(out, line, behind),
         Row::From => say_spot(alloc, out, line, Spot::Home, behind),
-        Row::Values => lose_both(out, line, Event::Values, Event::Features),
-        Row::Features => loses(out, line, Event::Features),
-        Row::Call | Row::Fit | Row::Other => loses(out, line, Event::All),
+        Row::Values => lose_values(out, line, words),
+        Row::Features => say_remade(out, line, words),
+        Row::Switch => say_switch(out, line, first_field(behind)),
+        Row::Carriage => say_carriage(out, line, first_field(behind)),
+        Row::Call => lose_call(out, line, behind),
+        Row::Fit => say_fitted(alloc, out, line, words),
+        Row::Other => loses(out, line, Event::All),
     }
 }
 
@@ -614,19 +678,21 @@ fn say_case(out: &mut Vec<Statement>, line: u32, form: Form) -> Result<(), NoMem
 
 // A statement that is one of the language, by its row.
 fn say_spelled(
+    alloc: Global,
     out: &mut Vec<Statement>,
     line: u32,
+    planes: bool,
     row: Row,
     form: Form,
     behind: &Phrase<'_>,
 ) -> Result<bool, NoMemory>
-    ensures said { IfOk result (λ done. done ≡ true → (ws : List Lexeme) → out.new.items ≡ out.old.items ++ on_line line (row_said row (Some form) line ws behind.now)) }
-    ensures left { IfOk result (λ done. done ≡ false → (out.new.items ≡ out.old.items) × ((ws : List Lexeme) → row_said row (Some form) line ws behind.now ≡ row_said row None line ws behind.now)) }
+    ensures said { IfOk result (λ done. done ≡ true → (ws : List Lexeme) → out.new.items ≡ out.old.items ++ on_line line (row_said planes row (Some form) line ws behind.now)) }
+    ensures left { IfOk result (λ done. done ≡ false → (out.new.items ≡ out.old.items) × ((ws : List Lexeme) → row_said planes row (Some form) line ws behind.now ≡ row_said planes row None line ws behind.now)) }
 {
     match row {
         Row::Call => add(out, line, form)?,
         Row::Case => say_case(out, line, form)?,
-        Row::Settings => say_settings(out, line, Some(form), behind)?,
+        Row::Settings => say_settings(alloc, out, line, Some(form), behind)?,
         Row::Shape | Row::Stated | Row::Output | Row::Value => add(out, line, form)?,
         Row::Motion | Row::Touch => add(out, line, form)?,
         Row::Text | Row::Test | Row::Loop | Row::Choice | Row::Feature => add(out, line, form)?,
@@ -650,19 +716,62 @@ fn spelled(alloc: Global, logical: &Logical) -> Result<Option<Form>, NoMemory>
 }
 
 // What a statement says.
-fn say(alloc: Global, out: &mut Vec<Statement>, logical: &Logical) -> Result<(), NoMemory>
-    ensures { OnOk result (out.new.items ≡ out.old.items ++ on_line logical.now.line (said logical.now.line (words_of logical.now))) }
+fn say(
+    alloc: Global,
+    out: &mut Vec<Statement>,
+    planes: bool,
+    logical: &Logical,
+) -> Result<(), NoMemory>
+    ensures { OnOk result (out.new.items ≡ out.old.items ++ on_line logical.now.line (said planes logical.now.line (words_of logical.now))) }
 {
     let line = logical.line;
     let words = Phrase::of(logical);
     let (major, behind) = major_at(&words);
     let row = row_in(&words, major);
     if let Some(form) = spelled(alloc, logical)? {
-        if say_spelled(out, line, row, form, &behind)? {
+        if say_spelled(alloc, out, line, planes, row, form, &behind)? {
             return Ok(());
         }
     }
-    say_otherwise(alloc, out, line, row, &words, &behind)
+    say_otherwise(alloc, out, line, planes, row, &words, &behind)
+}
+
+// Whether words spell a point without a direction.
+fn spells_undirected(alloc: Global, logical: &Logical) -> Result<bool, NoMemory>
+    ensures { IfOk result (λ b. b ≡ spells_undirected (statement_of (words_of logical.now))) }
+{
+    match parse_statement(alloc, logical) {
+        Ok(statement) => match statement.form {
+            Form::Touch(_, None) => Ok(true),
+            _ => Ok(false),
+        },
+        Err(fault) => match fault.code {
+            FaultCode::NoMemory => Err(NoMemory),
+            _ => Ok(false),
+        },
+    }
+}
+
+// Whether a statement is one.
+fn is_undirected(alloc: Global, logical: &Logical) -> Result<bool, NoMemory>
+    ensures { IfOk result (λ b. b ≡ is_undirected logical.now) }
+{
+    match row_of_statement(logical) {
+        Row::Touch => spells_undirected(alloc, logical),
+        _ => Ok(false),
+    }
+}
+
+// Whether planes have their place and direction: where points of a text have none of their own.
+fn needs_planes(alloc: Global, lines: &[Logical]) -> Result<bool, NoMemory>
+    ensures { IfOk result (λ b. b ≡ needs_planes lines.now) }
+{
+    for logical in lines {
+        if is_undirected(alloc, logical)? {
+            return Ok(true);
+        }
+    }
+    Ok(false)
 }
 
 /// What the statements of a text say, one behind the other; it begins as a program does. Those of the machine's own, from DMIS/OFF up to DMIS/ON, say nothing.
@@ -676,10 +785,11 @@ pub fn say_all(alloc: Global, lines: &[Logical]) -> Result<Vec<Statement>, NoMem
     let mut out = Vec::new(alloc);
     add(&mut out, 1, Form::Opening)?;
     add(&mut out, 1, Form::Measures)?;
+    let planes = needs_planes(alloc, lines)?;
     let mut own = false;
     for logical in lines {
         if !own {
-            say(alloc, &mut out, logical)?;
+            say(alloc, &mut out, planes, logical)?;
         }
         own = own_behind(own, logical);
     }

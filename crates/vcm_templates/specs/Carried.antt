@@ -65,6 +65,7 @@ item_name items.Bound = codes "BOUND"
 item_name items.Axes = codes "AXES"
 item_name items.Chosen = codes "CHOSEN"
 item_name items.Open = codes "OPEN"
+item_name items.Stored = codes "STORED"
 
 -- what is carried, as the target of an assignment
 abbrev pub carried_target : Carried → Target

@@ -179,6 +179,8 @@ pub enum Item {
     Chosen,
     /// 1 where no block of that SELECT was taken yet.
     Open,
+    /// 1 where a frame was kept elsewhere: what its name recalls isn't known once it is made again.
+    Stored,
 }
 
 impl Item {
@@ -199,6 +201,7 @@ impl Item {
             Item::Axes => b"AXES",
             Item::Chosen => b"CHOSEN",
             Item::Open => b"OPEN",
+            Item::Stored => b"STORED",
         }
     }
 

@@ -31,16 +31,16 @@ is_lost vs v = differs (slice_get vs v) (epoch_in vs)
 abbrev pub lacks_setting : List ℤ → Bool
 lacks_setting vs = is_lost vs 7 || (is_lost vs 8 || (is_lost vs 9 || (is_lost vs 13 || is_lost vs 14)))
 
--- why a motion isn't tried where the variables have these values: the first of a table that was turned (3), no programmed mode (2), scanning (4), a unit that
--- isn't followed (5), a frame that isn't known (0), and within a measurement (22) points of the machine's own (12) and settings; else a value that isn't known
+-- why a motion isn't tried where the variables have these values: the first of a table that was turned (3), no programmed mode (2), a unit that isn't followed (5),
+-- a frame that isn't known (0), and within a measurement (22) scanning (4), points of the machine's own (12) and settings; else a value that isn't known
 abbrev pub cause_in : List ℤ → Cause
 cause_in vs =
     if is_lost vs 3 then Table
     else if is_lost vs 2 then Mode
-    else if is_lost vs 4 then Scanning
     else if is_lost vs 5 then UnitLost
     else if is_nought vs 0 then Frame
     else if is_nought vs 22 then Value
+    else if is_lost vs 4 then Scanning
     else if is_lost vs 12 then Mode
     else if lacks_setting vs then Setting
     else Value

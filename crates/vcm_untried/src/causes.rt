@@ -92,14 +92,14 @@ pub(crate) fn cause_in(variables: &[i64]) -> Cause
         Cause::Table
     } else if is_lost(variables, MODE) {
         Cause::Mode
-    } else if is_lost(variables, SCANNING) {
-        Cause::Scanning
     } else if is_lost(variables, UNIT) {
         Cause::Unit
     } else if is_nought(variables, FRAME) {
         Cause::Frame
     } else if is_nought(variables, WANTED) {
         Cause::Value
+    } else if is_lost(variables, SCANNING) {
+        Cause::Scanning
     } else if is_lost(variables, OWN_POINTS) {
         Cause::Mode
     } else if lacks_setting(variables) {

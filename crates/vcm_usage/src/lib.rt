@@ -169,6 +169,8 @@ const USAGES: &[Usage] = &[
             Choice::Search,
             Choice::Auto,
             Choice::Approached,
+            Choice::Harmless,
+            Choice::Table,
         ],
     },
     Usage {
@@ -236,6 +238,8 @@ const USAGES: &[Usage] = &[
             Choice::Search,
             Choice::Auto,
             Choice::Approached,
+            Choice::Harmless,
+            Choice::Table,
         ],
     },
     Usage {
@@ -259,6 +263,8 @@ const USAGES: &[Usage] = &[
             Choice::Search,
             Choice::Auto,
             Choice::Approached,
+            Choice::Harmless,
+            Choice::Table,
         ],
     },
     Usage {
@@ -292,6 +298,8 @@ const USAGES: &[Usage] = &[
             Choice::Search,
             Choice::Auto,
             Choice::Approached,
+            Choice::Harmless,
+            Choice::Table,
         ],
     },
     Usage {
@@ -326,6 +334,8 @@ const USAGES: &[Usage] = &[
             Choice::Search,
             Choice::Auto,
             Choice::Approached,
+            Choice::Harmless,
+            Choice::Table,
         ],
     },
     Usage {
@@ -410,6 +420,8 @@ const USAGES: &[Usage] = &[
             Choice::Search,
             Choice::Auto,
             Choice::Approached,
+            Choice::Harmless,
+            Choice::Table,
             Choice::Csv,
             Choice::JUnit,
             Choice::Report,

@@ -51,6 +51,10 @@ pub enum Choice {
     Auto,
     /// `--approach`.
     Approached,
+    /// `--harmless WORD`.
+    Harmless,
+    /// `--table ANGLE`.
+    Table,
     /// `--unit UNIT`.
     Unit,
     /// `--turn TURNS`.
@@ -286,6 +290,20 @@ impl Choice {
                 "approach",
                 "points are approached and left, and not touched",
                 "Approaches points and leaves them without a touch, for parts whose blocks are coarser than their features",
+            ),
+            Choice::Harmless => Spelled {
+                name: "harmless",
+                behind: Behind::Values,
+                value: "WORD",
+                files: Files::None,
+                brief: "a word that moves nothing and sets nothing",
+                help: "Takes it that statements that go by this word, and calls of a program of this name, move nothing and set nothing",
+            },
+            Choice::Table => valued(
+                "table",
+                "ANGLE",
+                "where the rotary table stands at the start",
+                "Where the rotary table stands at the start, in degrees: turned back to it, motions are tried again",
             ),
             Choice::Unit => valued(
                 "unit",

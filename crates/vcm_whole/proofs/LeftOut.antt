@@ -17,19 +17,22 @@ use Rattle.vcm_heads.specs.declared.heads.Mark.TheVariants as marks
 use Rattle.vcm_heads.specs.Heads.{past, title_at, behind_of, first_field}
 use Rattle.vcm_events.specs.declared.event.Event.{Event}
 use Rattle.vcm_events.specs.declared.event.Event.TheVariants.{PolarMotion, PolarPoint}
-use Rattle.vcm_said.specs.Places.{step_at, slant_at}
+use Rattle.vcm_num.specs.declared.axis.Axis.{Axis}
+use Rattle.vcm_forms.specs.declared.statement.Coordinates.{Coordinates}
+use Rattle.vcm_said.specs.Places.{step_at, slant_at, plane_if}
 use Rattle.vcm_said.specs.Polar.{polar_motion, polar_touch}
-use Rattle.vcm_said.specs.Said.{said, row_said, spelled_in, stated, or_said, motion_otherwise, touch_otherwise, call_said, feature_lost, measure_lost, measured_at, frame_otherwise, mode_said, polar_or, sensor_said, is_plain_sensor}
+use Rattle.vcm_said.specs.Said.{said, row_said, spelled_in, stated, or_said, motion_otherwise, touch_otherwise, is_outside, call_said, feature_lost, measure_lost, measured_at, frame_otherwise, mode_said, polar_or, sensor_said, is_plain_sensor}
+use Rattle.vcm_said.specs.Named.{remade}
 use Rattle.vcm_said.specs.Cases.{values_of, case_said, is_shaping}
-use Rattle.vcm_said.specs.All.{on_line, said_unless, said_from, shape_fault}
+use Rattle.vcm_said.specs.All.{on_line, said_unless, said_from, needs_planes, shape_fault}
 use Rattle.vcm_whole.specs.Laws.{said_lists, NothingIsLeftOut, AreOnTheirLines, EachHasItsLine, may_be_silent, SilentOnesMoveNothing}
 
-from_lists : (own : Bool) (ls : List Logical) → said_from own ls ≡ flat_map (λ ss. ss) (said_lists own ls)
-from_lists own [] = refl
-from_lists own (l ∷ ls) = ap (λ ss. said_unless own l ++ ss) (from_lists (own_behind own (words_of l)) ls)
+from_lists : (planes own : Bool) (ls : List Logical) → said_from planes own ls ≡ flat_map (λ ss. ss) (said_lists planes own ls)
+from_lists planes own [] = refl
+from_lists planes own (l ∷ ls) = ap (λ ss. said_unless planes own l ++ ss) (from_lists planes (own_behind own (words_of l)) ls)
 
 pub nothing_is_left_out : NothingIsLeftOut
-nothing_is_left_out ls = ap (λ ss. on_line 1 (Opening ∷ Measures ∷ []) ++ ss) (from_lists false ls)
+nothing_is_left_out ls = ap (λ ss. on_line 1 (Opening ∷ Measures ∷ []) ++ ss) (from_lists (needs_planes ls) false ls)
 
 line_itself : (n : ℕ) → nat_eq n n ≡ true
 line_itself n = grind arith
@@ -38,16 +41,16 @@ forms_on_line : (line : ℕ) (fs : List Form) → list_all (λ s. nat_eq s.line 
 forms_on_line line [] = refl
 forms_on_line line (f ∷ fs) = ap (λ b. b && list_all (λ s. nat_eq s.line line) (on_line line fs)) (line_itself line) ∙ forms_on_line line fs
 
-unless_on_line : (own : Bool) (l : Logical) → list_all (λ s. nat_eq s.line l.line) (said_unless own l) ≡ true
-unless_on_line true l = refl
-unless_on_line false l = forms_on_line l.line (said l.line (words_of l))
+unless_on_line : (planes own : Bool) (l : Logical) → list_all (λ s. nat_eq s.line l.line) (said_unless planes own l) ≡ true
+unless_on_line planes true l = refl
+unless_on_line planes false l = forms_on_line l.line (said planes l.line (words_of l))
 
-lists_on_lines : (own : Bool) (ls : List Logical) → AreOnTheirLines ls (said_lists own ls)
-lists_on_lines own [] = tt
-lists_on_lines own (l ∷ ls) = (unless_on_line own l, lists_on_lines (own_behind own (words_of l)) ls)
+lists_on_lines : (planes own : Bool) (ls : List Logical) → AreOnTheirLines ls (said_lists planes own ls)
+lists_on_lines planes own [] = tt
+lists_on_lines planes own (l ∷ ls) = (unless_on_line planes own l, lists_on_lines planes (own_behind own (words_of l)) ls)
 
 pub each_has_its_line : EachHasItsLine
-each_has_its_line ls = lists_on_lines false ls
+each_has_its_line planes ls = lists_on_lines planes false ls
 
 -- ---- statements that say nothing
 
@@ -68,17 +71,18 @@ touch_some : (o : Option Form) (ws : List Lexeme) → some (touch_otherwise o ws
 touch_some None ws = refl
 touch_some (Some f) ws = refl
 
-call_some : (o : Option Form) → some (call_said o) ≡ true
-call_some None = refl
-call_some (Some f) = refl
+call_some : (outside : Bool) (o : Option Form) → (some (call_said outside o) ≡ true) ⊎ (outside ≡ true)
+call_some true o = inr refl
+call_some false None = inl refl
+call_some false (Some f) = inl refl
 
 either_some : (b : Bool) (fs gs : List Form) → some fs ≡ true → some gs ≡ true → some (if b then fs else gs) ≡ true
 either_some true fs gs f g = f
 either_some false fs gs f g = g
 
-feature_some : (o : Option (List ℕ × List Lexeme)) → some (feature_lost o) ≡ true
-feature_some None = refl
-feature_some (Some l) = either_some (is_name l.0) _ _ refl refl
+feature_some : (p : Option (Coordinates × Axis)) (o : Option (List ℕ × List Lexeme)) → some (feature_lost p o) ≡ true
+feature_some p None = refl
+feature_some p (Some l) = either_some (is_name l.0) _ _ refl refl
 
 measure_some : (o : Option (List ℕ × List Lexeme)) → some (measure_lost o) ≡ true
 measure_some None = refl
@@ -87,6 +91,10 @@ measure_some (Some l) = either_some (is_name l.0) _ _ refl refl
 frame_some : (word : List ℕ) (o : Option (List ℕ × List Lexeme)) → some (frame_otherwise word o) ≡ true
 frame_some word None = refl
 frame_some word (Some l) = either_some (is_name l.0) _ _ (either_some (bytes_eq word (codes "MCS")) _ _ refl refl) refl
+
+remade_some : (o : Option (List ℕ × List Lexeme)) → some (remade o) ≡ true
+remade_some None = refl
+remade_some (Some l) = either_some (is_name l.0) _ _ refl refl
 
 mode_some : (word : List ℕ) → some (mode_said word) ≡ true
 mode_some word = either_some (bytes_eq word (codes "PROG")) _ _ refl (either_some (bytes_eq word (codes "AUTO")) _ _ refl refl)
@@ -109,36 +117,41 @@ case_some line (Err c) None e = absurd cc
 case_some line (Err c) (Some v) e = refl
 
 -- a statement says something, or its row may say nothing
-says_or_silent : (row : Row) (r : Result Form FaultCode) (line : ℕ) (ws behind : List Lexeme) → shape_fault line (is_shaping row ws) r ≡ None
-    → (some (row_said row (spelled_in r) line ws behind) ≡ true) ⊎ (may_be_silent row ≡ true)
-says_or_silent rows.Shape r line ws behind e = inl (shape_some line r e)
-says_or_silent rows.Case r line ws behind e = inl (case_some line r (values_of ws) e)
-says_or_silent rows.Stated r line ws behind e = inr refl
-says_or_silent rows.Value r line ws behind e = inr refl
-says_or_silent rows.Text r line ws behind e = inr refl
-says_or_silent rows.Output r line ws behind e = inr refl
-says_or_silent rows.Settings r line ws behind e = inr refl
-says_or_silent rows.Recall r line ws behind e = inr refl
-says_or_silent rows.Save r line ws behind e = inr refl
-says_or_silent rows.Silent r line ws behind e = inr refl
-says_or_silent rows.Motion r line ws behind e = inl (or_some (spelled_in r) _ (polar_some (polar_motion behind) PolarMotion _ (motion_some (step_at behind) behind)))
-says_or_silent rows.Touch r line ws behind e = inl (or_some (spelled_in r) _ (polar_some (polar_touch behind) PolarPoint _ (touch_some (slant_at behind) behind)))
-says_or_silent rows.Test r line ws behind e = inl (or_some (spelled_in r) _ refl)
-says_or_silent rows.Loop r line ws behind e = inl (or_some (spelled_in r) _ refl)
-says_or_silent rows.Choice r line ws behind e = inl (or_some (spelled_in r) _ refl)
-says_or_silent rows.Call r line ws behind e = inl (call_some (spelled_in r))
-says_or_silent rows.Feature r line ws behind e = inl (or_some (spelled_in r) _ (feature_some (title_at (codes "F") ws)))
-says_or_silent rows.Measure r line ws behind e = inl (or_some (spelled_in r) _ (measure_some (measured_at behind)))
-says_or_silent rows.Frame r line ws behind e = inl (or_some (spelled_in r) _ (frame_some (first_field behind) (title_at (codes "D") ws)))
-says_or_silent rows.Mode r line ws behind e = inl (mode_some (first_field behind))
-says_or_silent rows.Sensor r line ws behind e = inl (sensor_some (is_plain_sensor (past marks.Slash behind)) line)
-says_or_silent _ r line ws behind e = inl refl
+says_or_silent : (planes : Bool) (row : Row) (r : Result Form FaultCode) (line : ℕ) (ws : List Lexeme) → shape_fault line (is_shaping row ws) r ≡ None
+    → (some (row_said planes row (spelled_in r) line ws (behind_of ws)) ≡ true) ⊎ (may_be_silent row ws ≡ true)
+says_or_silent planes rows.Shape r line ws e = inl (shape_some line r e)
+says_or_silent planes rows.Case r line ws e = inl (case_some line r (values_of ws) e)
+says_or_silent planes rows.Stated r line ws e = inr refl
+says_or_silent planes rows.Value r line ws e = inr refl
+says_or_silent planes rows.Text r line ws e = inr refl
+says_or_silent planes rows.Output r line ws e = inr refl
+says_or_silent planes rows.Settings r line ws e = inr refl
+says_or_silent planes rows.Recall r line ws e = inr refl
+says_or_silent planes rows.Save r line ws e = inr refl
+says_or_silent planes rows.Silent r line ws e = inr refl
+says_or_silent planes rows.Motion r line ws e = inl (or_some (spelled_in r) _ (polar_some (polar_motion (behind_of ws)) PolarMotion _ (motion_some (step_at (behind_of ws)) (behind_of ws))))
+says_or_silent planes rows.Touch r line ws e = inl (or_some (spelled_in r) _ (polar_some (polar_touch (behind_of ws)) PolarPoint _ (touch_some (slant_at (behind_of ws)) (behind_of ws))))
+says_or_silent planes rows.Test r line ws e = inl (or_some (spelled_in r) _ refl)
+says_or_silent planes rows.Loop r line ws e = inl (or_some (spelled_in r) _ refl)
+says_or_silent planes rows.Choice r line ws e = inl (or_some (spelled_in r) _ refl)
+says_or_silent planes rows.Call r line ws e = call_some (is_outside (behind_of ws)) (spelled_in r)
+says_or_silent planes rows.Values r line ws e = inr refl
+says_or_silent planes rows.Delete r line ws e = inr refl
+says_or_silent planes rows.Switch r line ws e = inr refl
+says_or_silent planes rows.Carriage r line ws e = inr refl
+says_or_silent planes rows.Feature r line ws e = inl (or_some (spelled_in r) _ (feature_some (plane_if planes (behind_of ws)) (title_at (codes "F") ws)))
+says_or_silent planes rows.Measure r line ws e = inl (or_some (spelled_in r) _ (measure_some (measured_at (behind_of ws))))
+says_or_silent planes rows.Frame r line ws e = inl (or_some (spelled_in r) _ (frame_some (first_field (behind_of ws)) (title_at (codes "D") ws)))
+says_or_silent planes rows.Features r line ws e = inl (remade_some (title_at (codes "F") ws))
+says_or_silent planes rows.Mode r line ws e = inl (mode_some (first_field (behind_of ws)))
+says_or_silent planes rows.Sensor r line ws e = inl (sensor_some (is_plain_sensor (past marks.Slash (behind_of ws))) line)
+says_or_silent planes _ r line ws e = inl refl
 
 silent_only : (fs : List Form) (b : Bool) → (some fs ≡ true) ⊎ (b ≡ true) → fs ≡ [] → b ≡ true
 silent_only fs b (inl s) none = (let f : true ≡ false = sym s ∙ ap some none in absurd cc)
 silent_only fs b (inr e) none = e
 
 pub silent_ones : SilentOnesMoveNothing
-silent_ones l whole none =
+silent_ones planes l whole none =
     let ws = words_of l in
-    silent_only (said l.line ws) (may_be_silent (row_in ws)) (says_or_silent (row_in ws) (statement_of ws) l.line ws (behind_of ws) whole) none
+    silent_only (said planes l.line ws) (may_be_silent (row_in ws) ws) (says_or_silent planes (row_in ws) (statement_of ws) l.line ws whole) none

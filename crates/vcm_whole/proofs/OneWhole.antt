@@ -21,10 +21,10 @@ use Rattle.vcm_asm.specs.Simulation.{IsAssembled}
 use Rattle.vcm_run.specs.Built.{IsBuilt, IsBuiltPlaced, IsImageOf}
 use Rattle.vcm_run.proofs.OneRun.{one_build}
 use Rattle.vcm_remarks.specs.declared.remark.NumberedRemark.{NumberedRemark}
-use Rattle.vcm_plain.specs.declared.unit.Unit.{Unit as LengthUnit}
+use Rattle.vcm_plain.specs.declared.unit.Lengths.{Lengths}
 use Rattle.vcm_plain.specs.declared.unit.Unit.TheVariants.{Millimetre}
 use Rattle.vcm_plain.specs.Plain.{plain}
-use Rattle.vcm_plain.specs.Units.{single_unit}
+use Rattle.vcm_plain.specs.Units.{all_in, lengths_of}
 use Rattle.vcm_given.specs.declared.choices.Choices.{Choices}
 use Rattle.vcm_kept.specs.Guarding.{guarded}
 use Rattle.vcm_said.specs.All.{said_all}
@@ -33,7 +33,9 @@ use Rattle.vcm_kept.specs.Put.{placed_in}
 use Rattle.vcm_whole.specs.declared.whole.Facts.{Facts}
 use Rattle.vcm_whole.specs.declared.frames.FrameLine.{FrameLine}
 use Rattle.vcm_whole.specs.Whole.{ReadsPlain, statements_of, Expands, stays, HasToBeCarried, IsPut, as_written, as_carried, is_rewritten}
-use Rattle.vcm_whole.specs.Losses.{lossy_lines, says_unit, says_mode}
+use Rattle.vcm_given.specs.declared.tips.OtherTip.{OtherTip}
+use Rattle.vcm_given.specs.Tips.{other_tips}
+use Rattle.vcm_whole.specs.Losses.{lossy_lines, says_unit, says_mode, says_sensor, unlooked}
 use Rattle.vcm_whole.specs.Frames.{named_frames}
 use Rattle.vcm_whole.specs.Laws.{IsPutOnce, WholesAreOne, IsAsWritten, AcceptedTextsStay}
 
@@ -87,22 +89,22 @@ put_once c text ss ps bytes more ns ms rs qs w v (as_carried has h r x) (as_carr
 one_lines : (text : List ℕ) (ls ms : List Logical) → ReadsLines text ls → ReadsLines text ms → ls ≡ ms
 one_lines text ls ms h k = one_statements (grouped (kept_lines (lines_of text))) ls ms h.lines k.lines
 
-one_unit : (text : List ℕ) (u v : LengthUnit) (ls ms : List Logical) → ReadsPlain text u ls → ReadsPlain text v ms → u ≡ v
-one_unit text u v ls ms h k = h.unit_is ∙ ap single_unit (one_lines (plain Millimetre text) h.written k.written h.as_written k.as_written) ∙ sym k.unit_is
+one_measure : (text : List ℕ) (u v : Lengths) (ls ms : List Logical) → ReadsPlain text u ls → ReadsPlain text v ms → u ≡ v
+one_measure text u v ls ms h k = h.lengths_are ∙ ap lengths_of (one_lines (plain (all_in Millimetre) text) h.written k.written h.as_written k.as_written) ∙ sym k.lengths_are
 
-one_reading : (text : List ℕ) (u v : LengthUnit) (ls ms : List Logical) → ReadsPlain text u ls → ReadsPlain text v ms → ls ≡ ms
+one_reading : (text : List ℕ) (u v : Lengths) (ls ms : List Logical) → ReadsPlain text u ls → ReadsPlain text v ms → ls ≡ ms
 one_reading text u v ls ms h k =
-    one_lines (plain v text) ls ms (subst (λ x. ReadsLines (plain x text) ls) (one_unit text u v ls ms h k) h.read) k.read
+    one_lines (plain v text) ls ms (subst (λ x. ReadsLines (plain x text) ls) (one_measure text u v ls ms h k) h.read) k.read
 
-one_expansion : (c : Choices) (text : List ℕ) (u v : LengthUnit) (ls ms : List Logical) (ps qs : List Placed) → Expands c text u ls ps → Expands c text v ms qs → ps ≡ qs
+one_expansion : (c : Choices) (text : List ℕ) (u v : Lengths) (ls ms : List Logical) (ps qs : List Placed) → Expands c text u ls ps → Expands c text v ms qs → ps ≡ qs
 one_expansion c text u v ls ms ps qs h k =
     let e = one_reading text u v ls ms h.read k.read in
     one_expanded (statements_of c text ms) ps qs (rw (ap (statements_of c text) e) at h.is_expanded) k.is_expanded
 
--- what is told, in its parts
-abbrev facts_of : LengthUnit → Bool → List ℕ → Option (List ℕ) → List FrameLine → ℕ → (written unit mode : Bool) → Facts
-facts_of u r losses unused frames n written unit mode = record {
-  unit = u;
+-- what is told, by its parts
+abbrev facts_of : Lengths → Bool → List ℕ → Option (List ℕ) → List FrameLine → ℕ → (written unit mode sensor : Bool) → List OtherTip → List (List ℕ) → Facts
+facts_of u r losses unused frames n written unit mode sensor tips unlooked = record {
+  lengths = u;
   is_rewritten = r;
   losses = losses;
   unused = unused;
@@ -111,30 +113,37 @@ facts_of u r losses unused frames n written unit mode = record {
   is_as_written = written;
   says_unit = unit;
   says_mode = mode;
+  says_sensor = sensor;
+  tips = tips;
+  unlooked = unlooked;
 }
 
 -- two that are the same in each part are the same
-same_facts : (f g : Facts) → f.unit ≡ g.unit → f.is_rewritten ≡ g.is_rewritten → f.losses ≡ g.losses → f.unused ≡ g.unused
-    → f.frames ≡ g.frames → f.statements ≡ g.statements → f.is_as_written ≡ g.is_as_written → f.says_unit ≡ g.says_unit → f.says_mode ≡ g.says_mode → f ≡ g
-same_facts f g u r l un fr n w su sm =
-    let e : facts_of f.unit f.is_rewritten f.losses f.unused f.frames f.statements f.is_as_written f.says_unit f.says_mode
-    ≡ facts_of g.unit g.is_rewritten g.losses g.unused g.frames g.statements g.is_as_written g.says_unit g.says_mode =
-    ap (λ x. facts_of x f.is_rewritten f.losses f.unused f.frames f.statements f.is_as_written f.says_unit f.says_mode) u
-    ∙ ap (λ x. facts_of g.unit x f.losses f.unused f.frames f.statements f.is_as_written f.says_unit f.says_mode) r
-    ∙ ap (λ x. facts_of g.unit g.is_rewritten x f.unused f.frames f.statements f.is_as_written f.says_unit f.says_mode) l
-    ∙ ap (λ x. facts_of g.unit g.is_rewritten g.losses x f.frames f.statements f.is_as_written f.says_unit f.says_mode) un
-    ∙ ap (λ x. facts_of g.unit g.is_rewritten g.losses g.unused x f.statements f.is_as_written f.says_unit f.says_mode) fr
-    ∙ ap (λ x. facts_of g.unit g.is_rewritten g.losses g.unused g.frames x f.is_as_written f.says_unit f.says_mode) n
-    ∙ ap (λ x. facts_of g.unit g.is_rewritten g.losses g.unused g.frames g.statements x f.says_unit f.says_mode) w
-    ∙ ap (λ x. facts_of g.unit g.is_rewritten g.losses g.unused g.frames g.statements g.is_as_written x f.says_mode) su
-    ∙ ap (λ x. facts_of g.unit g.is_rewritten g.losses g.unused g.frames g.statements g.is_as_written g.says_unit x) sm in
+same_facts : (f g : Facts) → f.lengths ≡ g.lengths → f.is_rewritten ≡ g.is_rewritten → f.losses ≡ g.losses → f.unused ≡ g.unused
+    → f.frames ≡ g.frames → f.statements ≡ g.statements → f.is_as_written ≡ g.is_as_written → f.says_unit ≡ g.says_unit → f.says_mode ≡ g.says_mode
+    → f.says_sensor ≡ g.says_sensor → f.tips ≡ g.tips → f.unlooked ≡ g.unlooked → f ≡ g
+same_facts f g u r l un fr n w su sm ss t ul =
+    let e : facts_of f.lengths f.is_rewritten f.losses f.unused f.frames f.statements f.is_as_written f.says_unit f.says_mode f.says_sensor f.tips f.unlooked
+    ≡ facts_of g.lengths g.is_rewritten g.losses g.unused g.frames g.statements g.is_as_written g.says_unit g.says_mode g.says_sensor g.tips g.unlooked =
+    ap (λ x. facts_of x f.is_rewritten f.losses f.unused f.frames f.statements f.is_as_written f.says_unit f.says_mode f.says_sensor f.tips f.unlooked) u
+    ∙ ap (λ x. facts_of g.lengths x f.losses f.unused f.frames f.statements f.is_as_written f.says_unit f.says_mode f.says_sensor f.tips f.unlooked) r
+    ∙ ap (λ x. facts_of g.lengths g.is_rewritten x f.unused f.frames f.statements f.is_as_written f.says_unit f.says_mode f.says_sensor f.tips f.unlooked) l
+    ∙ ap (λ x. facts_of g.lengths g.is_rewritten g.losses x f.frames f.statements f.is_as_written f.says_unit f.says_mode f.says_sensor f.tips f.unlooked) un
+    ∙ ap (λ x. facts_of g.lengths g.is_rewritten g.losses g.unused x f.statements f.is_as_written f.says_unit f.says_mode f.says_sensor f.tips f.unlooked) fr
+    ∙ ap (λ x. facts_of g.lengths g.is_rewritten g.losses g.unused g.frames x f.is_as_written f.says_unit f.says_mode f.says_sensor f.tips f.unlooked) n
+    ∙ ap (λ x. facts_of g.lengths g.is_rewritten g.losses g.unused g.frames g.statements x f.says_unit f.says_mode f.says_sensor f.tips f.unlooked) w
+    ∙ ap (λ x. facts_of g.lengths g.is_rewritten g.losses g.unused g.frames g.statements g.is_as_written x f.says_mode f.says_sensor f.tips f.unlooked) su
+    ∙ ap (λ x. facts_of g.lengths g.is_rewritten g.losses g.unused g.frames g.statements g.is_as_written g.says_unit x f.says_sensor f.tips f.unlooked) sm
+    ∙ ap (λ x. facts_of g.lengths g.is_rewritten g.losses g.unused g.frames g.statements g.is_as_written g.says_unit g.says_mode x f.tips f.unlooked) ss
+    ∙ ap (λ x. facts_of g.lengths g.is_rewritten g.losses g.unused g.frames g.statements g.is_as_written g.says_unit g.says_mode g.says_sensor x f.unlooked) t
+    ∙ ap (λ x. facts_of g.lengths g.is_rewritten g.losses g.unused g.frames g.statements g.is_as_written g.says_unit g.says_mode g.says_sensor g.tips x) ul in
     e
 
 pub wholes_are_one : WholesAreOne
 wholes_are_one c text bytes more ns ms rs qs facts told h k =
-    let unit = one_unit text facts.unit told.unit h.lines k.lines h.expands.read k.expands.read in
-    let lines = one_reading text facts.unit told.unit h.lines k.lines h.expands.read k.expands.read in
-    let expanded = one_expansion c text facts.unit told.unit h.lines k.lines h.expanded k.expanded h.expands k.expands in
+    let unit = one_measure text facts.lengths told.lengths h.lines k.lines h.expands.read k.expands.read in
+    let lines = one_reading text facts.lengths told.lengths h.lines k.lines h.expands.read k.expands.read in
+    let expanded = one_expansion c text facts.lengths told.lengths h.lines k.lines h.expanded k.expanded h.expands k.expands in
     let first : IsPut c text (statements_of c text k.lines) k.expanded bytes ns rs facts.is_as_written =
     subst (λ l. IsPut c text (statements_of c text l) k.expanded bytes ns rs facts.is_as_written) lines
     (subst (λ p. IsPut c text (statements_of c text h.lines) p bytes ns rs facts.is_as_written) expanded h.put) in
@@ -150,7 +159,10 @@ wholes_are_one c text bytes more ns ms rs qs facts told h k =
           (h.count_is ∙ ap length lines ∙ sym k.count_is)
           e.3
           (h.unit_said ∙ ap says_unit lines ∙ sym k.unit_said)
-          (h.mode_said ∙ ap says_mode lines ∙ sym k.mode_said),
+          (h.mode_said ∙ ap says_mode lines ∙ sym k.mode_said)
+          (h.sensor_said ∙ ap says_sensor lines ∙ sym k.sensor_said)
+          (h.tips_are ∙ ap (other_tips c.tip) lines ∙ sym k.tips_are)
+          (h.unlooked_are ∙ ap unlooked lines ∙ sym k.unlooked_are),
     )
 
 -- ---- texts of the language
@@ -170,5 +182,5 @@ as_accepted c text bytes ss ps ns rs facts p accepted stay (as_carried (inr (f, 
 
 pub accepted_texts_stay : AcceptedTextsStay
 accepted_texts_stay c text bytes ns rs facts p ls ps accepted expands stay h =
-    let expanded = one_expansion c text facts.unit facts.unit ls h.lines ps h.expanded expands h.expands in
+    let expanded = one_expansion c text facts.lengths facts.lengths ls h.lines ps h.expanded expands h.expands in
     as_accepted c text bytes (statements_of c text h.lines) h.expanded ns rs facts p accepted (ap (stays c) (sym expanded) ∙ stay) h.put

@@ -13,8 +13,10 @@ use Rattle.vcm_remarks.specs.declared.remark.NumberedRemark.{NumberedRemark}
 use Rattle.vcm_heads.specs.declared.rows.Row.{Row}
 use Rattle.vcm_heads.specs.declared.rows.Row.TheVariants as rows
 use Rattle.vcm_heads.specs.Rows.{row_in, words_of, own_behind}
-use Rattle.vcm_said.specs.Said.{said}
-use Rattle.vcm_said.specs.All.{on_line, said_unless, said_all, refused_at}
+use Rattle.vcm_lines.specs.Lexemes.{Lexeme}
+use Rattle.vcm_heads.specs.Heads.{behind_of}
+use Rattle.vcm_said.specs.Said.{is_outside, said}
+use Rattle.vcm_said.specs.All.{on_line, said_unless, needs_planes, said_all, refused_at}
 use Rattle.vcm_given.specs.declared.choices.Choices.{Choices}
 use Rattle.vcm_whole.specs.declared.whole.Facts.{Facts}
 use Rattle.vcm_whole.specs.Whole.{Expands, stays, IsPut, IsWholeBuilt}
@@ -46,18 +48,18 @@ pub record IsAsWritten (p : Parsed) (bytes : List ℕ) (ns : List Noticed) (rs :
 abbrev pub AcceptedTextsStay : Type 0
 AcceptedTextsStay =
     (c : Choices) (text bytes : List ℕ) (ns : List Noticed) (rs : List NumberedRemark) (facts : Facts) (p : Parsed) (ls : List Logical) (ps : List Placed)
-    → IsAccepted text p → Expands c text facts.unit ls ps → stays c ps ≡ true → IsWholeBuilt c text bytes ns rs facts → IsAsWritten p bytes ns rs facts
+    → IsAccepted text p → Expands c text facts.lengths ls ps → stays c ps ≡ true → IsWholeBuilt c text bytes ns rs facts → IsAsWritten p bytes ns rs facts
 
 -- ---- each statement
 
 -- what each statement of a text says, in the order of the text: a list for each
-abbrev pub said_lists : Bool → List Logical → List (List Statement)
-said_lists own [] = []
-said_lists own (l ∷ ls) = said_unless own l ∷ said_lists (own_behind own (words_of l)) ls
+abbrev pub said_lists : (planes own : Bool) → List Logical → List (List Statement)
+said_lists planes own [] = []
+said_lists planes own (l ∷ ls) = said_unless planes own l ∷ said_lists planes (own_behind own (words_of l)) ls
 
 -- what a text says is what its statements say, one behind the other, behind the two statements that open it
 abbrev pub NothingIsLeftOut : Type 0
-NothingIsLeftOut = (ls : List Logical) → said_all ls ≡ on_line 1 (Opening ∷ Measures ∷ []) ++ flat_map (λ ss. ss) (said_lists false ls)
+NothingIsLeftOut = (ls : List Logical) → said_all ls ≡ on_line 1 (Opening ∷ Measures ∷ []) ++ flat_map (λ ss. ss) (said_lists (needs_planes ls) false ls)
 
 -- to each statement belongs one of the lists, and all in it has the line of the statement
 abbrev pub AreOnTheirLines : List Logical → List (List Statement) → Type 0
@@ -67,22 +69,27 @@ AreOnTheirLines ls sss = ⊥
 
 -- all that is said has the line of its statement
 abbrev pub EachHasItsLine : Type 0
-EachHasItsLine = (ls : List Logical) → AreOnTheirLines ls (said_lists false ls)
+EachHasItsLine = (planes : Bool) (ls : List Logical) → AreOnTheirLines ls (said_lists planes false ls)
 
--- whether statements of a row may say nothing: those that move nothing and choose nothing
-abbrev pub may_be_silent : Row → Bool
-may_be_silent rows.Stated = true
-may_be_silent rows.Value = true
-may_be_silent rows.Text = true
-may_be_silent rows.Output = true
-may_be_silent rows.Settings = true
-may_be_silent rows.Recall = true
-may_be_silent rows.Save = true
-may_be_silent rows.Silent = true
-may_be_silent row = false
+-- whether statements of a row may say nothing: those that move nothing and choose nothing, and a CALL of another process
+abbrev pub may_be_silent : Row → List Lexeme → Bool
+may_be_silent rows.Stated ws = true
+may_be_silent rows.Value ws = true
+may_be_silent rows.Values ws = true
+may_be_silent rows.Text ws = true
+may_be_silent rows.Output ws = true
+may_be_silent rows.Settings ws = true
+may_be_silent rows.Recall ws = true
+may_be_silent rows.Save ws = true
+may_be_silent rows.Delete ws = true
+may_be_silent rows.Switch ws = true
+may_be_silent rows.Carriage ws = true
+may_be_silent rows.Silent ws = true
+may_be_silent rows.Call ws = is_outside (behind_of ws)
+may_be_silent row ws = false
 
 -- a statement that says nothing, and isn't refused, is of such a row
 abbrev pub SilentOnesMoveNothing : Type 0
 SilentOnesMoveNothing =
-    (l : Logical) → refused_at l ≡ None → said l.line (words_of l) ≡ []
-    → may_be_silent (row_in (words_of l)) ≡ true
+    (planes : Bool) (l : Logical) → refused_at l ≡ None → said planes l.line (words_of l) ≡ []
+    → may_be_silent (row_in (words_of l)) (words_of l) ≡ true

@@ -21,10 +21,10 @@ use Rattle.vcm_run.specs.Built.{IsBuilt, IsBuiltPlaced}
 use Rattle.vcm_run.specs.declared.run.Refusal.{Refusal}
 use Rattle.vcm_run.specs.declared.run.Refusal.TheVariants.{Source, Part, NoMemory}
 use Rattle.vcm_remarks.specs.declared.remark.NumberedRemark.{NumberedRemark}
-use Rattle.vcm_plain.specs.declared.unit.Unit.{Unit as LengthUnit}
+use Rattle.vcm_plain.specs.declared.unit.Lengths.{Lengths}
 use Rattle.vcm_plain.specs.declared.unit.Unit.TheVariants.{Millimetre}
 use Rattle.vcm_plain.specs.Plain.{plain}
-use Rattle.vcm_plain.specs.Units.{single_unit}
+use Rattle.vcm_plain.specs.Units.{all_in, lengths_of}
 use Rattle.vcm_said.specs.All.{said_all, refused_from}
 use Rattle.vcm_given.specs.declared.choices.Choices.{Choices}
 use Rattle.vcm_given.specs.Chosen.{is_silent, chosen}
@@ -33,26 +33,27 @@ use Rattle.vcm_certain.specs.Certain.{is_certain}
 use Rattle.vcm_given.specs.Unused.{unused}
 use Rattle.vcm_doubts.specs.Settled.{settled}
 use Rattle.vcm_whole.specs.declared.whole.Facts.{Facts}
-use Rattle.vcm_whole.specs.Losses.{lossy_lines, says_unit, says_mode}
+use Rattle.vcm_given.specs.Tips.{other_tips}
+use Rattle.vcm_whole.specs.Losses.{lossy_lines, says_unit, says_mode, says_sensor, unlooked}
 use Rattle.vcm_whole.specs.Frames.{named_frames}
 use Rattle.vcm_kept.specs.Guarding.{guarded}
 use Rattle.vcm_kept.specs.Put.{placed_in, remarks_in}
 use Rattle.vcm_num.specs.declared.limits.TheConstants.{MOST_STATEMENTS}
 
--- the lines of a text with its lengths in whole micrometres: the unit is that of its lines as they are written, with numbers rounded
-pub record ReadsPlain (text : List ℕ) (unit : LengthUnit) (lines : List Logical) : Type 0 where
+-- the lines of a text with its lengths in whole micrometres: they are read by the units of its lines as they are written, with numbers rounded
+pub record ReadsPlain (text : List ℕ) (lengths : Lengths) (lines : List Logical) : Type 0 where
   pub written : List Logical
-  pub as_written : ReadsLines (plain Millimetre text) written
-  pub unit_is : unit ≡ single_unit written
-  pub read : ReadsLines (plain unit text) lines
+  pub as_written : ReadsLines (plain (all_in Millimetre) text) written
+  pub lengths_are : lengths ≡ lengths_of written
+  pub read : ReadsLines (plain lengths text) lines
 
 -- what the statements of a text say, with what a command line says of them, and with its datums; where something is read in two ways it isn't known
 abbrev pub statements_of : Choices → List ℕ → List Logical → List Statement
 statements_of c text ls = settled text ls (dated ls (chosen c ls (said_all ls)))
 
 -- the text reads as these statements, none of those that shape the program is faulty, and what they say expands to these
-pub record Expands (c : Choices) (text : List ℕ) (unit : LengthUnit) (lines : List Logical) (expanded : List Placed) : Type 0 where
-  pub read : ReadsPlain text unit lines
+pub record Expands (c : Choices) (text : List ℕ) (lengths : Lengths) (lines : List Logical) (expanded : List Placed) : Type 0 where
+  pub read : ReadsPlain text lengths lines
   pub shaped : refused_from false lines ≡ None
   pub is_expanded : IsExpanded (statements_of c text lines) expanded
 
@@ -71,22 +72,25 @@ pub data IsPut (c : Choices) (text : List ℕ) (ss : List Statement) (ps : List 
       → IsPut c text ss ps bytes notices remarks written
 
 -- whether lengths of a text are written otherwise than they are read
-abbrev pub is_rewritten : List ℕ → LengthUnit → Bool
-is_rewritten text unit = not (bytes_eq (plain unit text) text)
+abbrev pub is_rewritten : List ℕ → Lengths → Bool
+is_rewritten text lengths = not (bytes_eq (plain lengths text) text)
 
 -- the text is put as a program whose image the bytes are, with these notices and remarks, and this is told of it
 pub record IsWholeBuilt (c : Choices) (text bytes : List ℕ) (notices : List Noticed) (remarks : List NumberedRemark) (facts : Facts) : Type 0 where
   pub lines : List Logical
   pub expanded : List Placed
-  pub expands : Expands c text facts.unit lines expanded
+  pub expands : Expands c text facts.lengths lines expanded
   pub put : IsPut c text (statements_of c text lines) expanded bytes notices remarks facts.is_as_written
-  pub rewritten_is : facts.is_rewritten ≡ is_rewritten text facts.unit
+  pub rewritten_is : facts.is_rewritten ≡ is_rewritten text facts.lengths
   pub losses_are : facts.losses ≡ lossy_lines (statements_of c text lines)
   pub unused_is : facts.unused ≡ unused c lines (said_all lines)
   pub frames_are : facts.frames ≡ named_frames (statements_of c text lines)
   pub count_is : facts.statements ≡ length lines
   pub unit_said : facts.says_unit ≡ says_unit lines
   pub mode_said : facts.says_mode ≡ says_mode lines
+  pub sensor_said : facts.says_sensor ≡ says_sensor lines
+  pub tips_are : facts.tips ≡ other_tips c.tip lines
+  pub unlooked_are : facts.unlooked ≡ unlooked lines
 
 -- whether a declaration declares names of variables
 abbrev pub is_lettered : Form → Bool
@@ -107,23 +111,31 @@ line_beyond None = 0
 line_beyond (Some p) = p.statement.line
 
 -- the text reads as these statements, which expand to these, and what is known has to be carried
-pub record Carries (c : Choices) (text : List ℕ) (unit : LengthUnit) (lines : List Logical) (expanded : List Placed) : Type 0 where
-  pub expands : Expands c text unit lines expanded
+pub record Carries (c : Choices) (text : List ℕ) (lengths : Lengths) (lines : List Logical) (expanded : List Placed) : Type 0 where
+  pub expands : Expands c text lengths lines expanded
   pub has_to : HasToBeCarried c text expanded
+
+-- the text is put as so many statements
+pub record IsPutAs (c : Choices) (text : List ℕ) (n : ℕ) : Type 0 where
+  pub lengths : Lengths
+  pub lines : List Logical
+  pub expanded : List Placed
+  pub expands : Expands c text lengths lines expanded
+  pub count_is : n ≡ length (placed_in (guarded expanded))
 
 -- why a text isn't put as a program: its lines, a statement that shapes it, the order of its statements or its macros, more statements than a program may
 -- have, or the names and blocks of what it is put as
 pub data IsWholeRefused (c : Choices) (text : List ℕ) (f : SourceFault) : Type 0 where
-  in_lines : FirstFault Breaks told_line (lines_of (plain Millimetre text)) f.code f.line → IsWholeRefused c text f
-  in_converted : (ls : List Logical) → ReadsLines (plain Millimetre text) ls → FirstFault Breaks told_line (lines_of (plain (single_unit ls) text)) f.code f.line
+  in_lines : FirstFault Breaks told_line (lines_of (plain (all_in Millimetre) text)) f.code f.line → IsWholeRefused c text f
+  in_converted : (ls : List Logical) → ReadsLines (plain (all_in Millimetre) text) ls → FirstFault Breaks told_line (lines_of (plain (lengths_of ls) text)) f.code f.line
       → IsWholeRefused c text f
-  in_shape : (u : LengthUnit) (ls : List Logical) → ReadsPlain text u ls → refused_from false ls ≡ Some f → IsWholeRefused c text f
-  in_expansion : (u : LengthUnit) (ls : List Logical) → ReadsPlain text u ls → IsUnexpanded (statements_of c text ls) f → IsWholeRefused c text f
-  too_long : (u : LengthUnit) (ls : List Logical) (ps : List Placed) → Carries c text u ls ps → MOST_STATEMENTS < length (placed_in (guarded ps))
+  in_shape : (u : Lengths) (ls : List Logical) → ReadsPlain text u ls → refused_from false ls ≡ Some f → IsWholeRefused c text f
+  in_expansion : (u : Lengths) (ls : List Logical) → ReadsPlain text u ls → IsUnexpanded (statements_of c text ls) f → IsWholeRefused c text f
+  too_long : (u : Lengths) (ls : List Logical) (ps : List Placed) → Carries c text u ls ps → MOST_STATEMENTS < length (placed_in (guarded ps))
       → f ≡ record { code = TooLong; line = line_beyond (slice_get (placed_in (guarded ps)) MOST_STATEMENTS) } → IsWholeRefused c text f
-  no_program : (u : LengthUnit) (ls : List Logical) (ps : List Placed) → Carries c text u ls ps → is_program (placed_in (guarded ps)) ≡ false
+  no_program : (u : Lengths) (ls : List Logical) (ps : List Placed) → Carries c text u ls ps → is_program (placed_in (guarded ps)) ≡ false
       → f ≡ record { code = BadOrder; line = 1 } → IsWholeRefused c text f
-  in_program : (u : LengthUnit) (ls : List Logical) (ps : List Placed) → Carries c text u ls ps → IsRefusedPlaced (statements_of c text ls) (placed_in (guarded ps)) f
+  in_program : (u : Lengths) (ls : List Logical) (ps : List Placed) → Carries c text u ls ps → IsRefusedPlaced (statements_of c text ls) (placed_in (guarded ps)) f
       → IsWholeRefused c text f
 
 -- what is told of a text that isn't put as a program; of want of memory behind acceptance nothing is said

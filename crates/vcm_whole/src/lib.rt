@@ -7,4 +7,4 @@ mod losses;
 mod whole;
 
 pub use frames::FrameLine;
-pub use whole::{Facts, Whole, build_whole};
+pub use whole::{Facts, Whole, build_whole, count_put};

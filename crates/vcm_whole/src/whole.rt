@@ -16,33 +16,34 @@ ghost use Rattle.vcm_tree.specs.Ended.{is_ended};
 ghost use Rattle.vcm_tree.specs.Acceptance.{ReadsLines};
 ghost use Rattle.vcm_said.specs.All.{said_all, refused_from};
 ghost use Rattle.vcm_given.specs.Unused.{unused};
-ghost use Rattle.vcm_whole.specs.Losses.{says_unit as unit_said, says_mode as mode_said};
+ghost use Rattle.vcm_whole.specs.Losses.{says_unit as unit_said, says_mode as mode_said, says_sensor as sensor_said, unlooked};
+ghost use Rattle.vcm_given.specs.Tips.{other_tips};
 ghost use Rattle.vcm_given.specs.declared.choices.Choices.{Choices as Given};
-ghost use Rattle.vcm_plain.specs.declared.unit.Unit.{Unit as LengthUnit};
+ghost use Rattle.vcm_plain.specs.declared.unit.Lengths.{Lengths as Measure};
 ghost use Rattle.vcm_plain.specs.declared.unit.Unit.TheVariants.{Millimetre};
-ghost use Rattle.std.specs.Prelude.{MatchOption};
+ghost use Rattle.std.specs.Prelude.{MatchOption, IfSome};
 ghost use Rattle.vcm_run.specs.Built.{IsBuilt, IsBuiltPlaced};
 ghost use Rattle.vcm_whole.specs.inner.Memory.{is_memory};
 ghost use Rattle.vcm_plain.specs.Plain.{plain};
-ghost use Rattle.vcm_plain.specs.Units.{single_unit};
+ghost use Rattle.vcm_plain.specs.Units.{all_in, lengths_of};
 ghost use Rattle.vcm_kept.specs.Guarding.{guarded};
 ghost use Rattle.vcm_kept.specs.Put.{placed_in, remarks_in};
-ghost use Rattle.vcm_whole.specs.Whole.{ReadsPlain, statements_of, is_rewritten as rewrites, stays, HasToBeCarried, Carries, Expands, IsPut, IsWholeBuilt, is_lettered, is_lettered_placed, is_program, line_beyond, IsWholeRefusal};
+ghost use Rattle.vcm_whole.specs.Whole.{ReadsPlain, statements_of, is_rewritten as rewrites, stays, HasToBeCarried, Carries, Expands, IsPut, IsWholeBuilt, IsPutAs, is_lettered, is_lettered_placed, is_program, line_beyond, IsWholeRefusal};
 
 use crate::frames::{FrameLine, named_frames};
-use crate::losses::{lossy_lines, says_mode, says_unit};
+use crate::losses::{lossy_lines, says_mode, says_sensor, says_unit, unlooked};
 use std::alloc::Global;
 use vcm_certain::is_certain;
 use vcm_datums::date;
 use vcm_doubts::settle;
 use vcm_forms::{Form, Statement};
-use vcm_given::{Choices, choose, first_unused};
+use vcm_given::{Choices, OtherTip, choose, first_unused, other_tips};
 use vcm_items::{Name, VariableName, is_variable_name};
 use vcm_kept::{Put, put_text};
 use vcm_lines::{FaultCode, Logical, SourceFault, logical_lines};
 use vcm_macro::{Placed, expand};
 use vcm_num::{Items, MOST_STATEMENTS, NoMemory};
-use vcm_plain::{Unit, plain_text, single_unit};
+use vcm_plain::{Lengths, Unit, lengths_of, plain_text};
 use vcm_program::Noticed;
 use vcm_remarks::NumberedRemark;
 use vcm_run::{Built, Refusal, build_image, build_placed};
@@ -52,8 +53,8 @@ use vcm_tree::noted;
 /// What is told of a text beside its program.
 #[derive(Drop)]
 pub struct Facts {
-    /// The unit of its lengths.
-    pub unit: Unit,
+    /// How its lengths are read.
+    pub lengths: Lengths,
     /// Whether some of them are written otherwise than they are read, which is in whole micrometres.
     pub is_rewritten: bool,
     /// The lines by whose statements something may be lost or isn't followed, in order, each once.
@@ -70,6 +71,12 @@ pub struct Facts {
     pub says_unit: bool,
     /// Whether it says its mode.
     pub says_mode: bool,
+    /// Whether it selects a sensor.
+    pub says_sensor: bool,
+    /// The tips that it puts on that aren't that of the part.
+    pub tips: Items<OtherTip>,
+    /// The words of its statements that aren't looked at, each once.
+    pub unlooked: Items<Name>,
 }
 
 /// The image of the program that a producer's text is put as.
@@ -86,9 +93,11 @@ pub struct Whole {
 // What is told of a text before its statements are put.
 #[derive(Drop)]
 struct Reading {
-    unit: Unit,
+    lengths: Lengths,
     is_rewritten: bool,
     unused: Option<Name>,
+    tips: Items<OtherTip>,
+    unlooked: Items<Name>,
 }
 
 // A program as an image, with the remarks on its statements.
@@ -174,7 +183,7 @@ fn build_put(
     ensures built { IfOk result (λ p. (ss : List Said) → notices.items ≡ notices_of ss → IsBuiltPlaced ss (placed_in (guarded expanded.items)) p.image.items p.notices.items) }
     ensures remarks { IfOk result (λ p. p.remarks.items ≡ remarks_in (guarded expanded.items)) }
     ensures carried { IfOk result (λ p. p.is_as_written ≡ false) }
-    ensures refused { IfErr result (λ r. (c : Given) (text : List ℕ) (u : LengthUnit) (ls : List Read) → Carries c text u ls expanded.items
+    ensures refused { IfErr result (λ r. (c : Given) (text : List ℕ) (u : Measure) (ls : List Read) → Carries c text u ls expanded.items
         → notices.items ≡ notices_of (statements_of c text ls) → IsWholeRefusal c text r) }
 {
     let (all, remarks) = match put_text(alloc, expanded) {
@@ -245,7 +254,7 @@ fn build_program(
     requires { (ss : List Said) × (notices.items ≡ notices_of ss) }
     ensures built { IfOk result (λ p. (ss : List Said) → notices.items ≡ notices_of ss
         → IsPut choices.now text.now ss expanded.items p.image.items p.notices.items p.remarks.items p.is_as_written) }
-    ensures refused { IfErr result (λ r. (u : LengthUnit) (ls : List Read) → Expands choices.now text.now u ls expanded.items
+    ensures refused { IfErr result (λ r. (u : Measure) (ls : List Read) → Expands choices.now text.now u ls expanded.items
         → notices.items ≡ notices_of (statements_of choices.now text.now ls) → IsWholeRefusal choices.now text.now r) }
 {
     match build_written(alloc, choices, text, &expanded) {
@@ -280,18 +289,23 @@ fn statements_of(
 fn reading_of(
     alloc: Global,
     choices: &Choices,
-    unit: Unit,
+    lengths: Lengths,
     is_rewritten: bool,
     lines: &[Logical],
     said: &[Statement],
 ) -> Result<Reading, NoMemory>
-    ensures { IfOk result (λ r. (r.unit ≡ unit) × (r.is_rewritten ≡ is_rewritten) × (r.unused ≡ unused choices.now lines.now said.now)) }
+    ensures { IfOk result (λ r. (r.lengths ≡ lengths) × (r.is_rewritten ≡ is_rewritten) × (r.unused ≡ unused choices.now lines.now said.now)
+        × (r.tips ≡ other_tips choices.now.tip lines.now) × (r.unlooked ≡ unlooked lines.now)) }
 {
     let unused = first_unused(alloc, choices, lines, said)?;
+    let tips = other_tips(alloc, choices.tip, lines)?;
+    let unlooked = unlooked(alloc, lines)?;
     Ok(Reading {
-        unit,
+        lengths,
         is_rewritten,
         unused,
+        tips,
+        unlooked,
     })
 }
 
@@ -305,7 +319,7 @@ fn whole_of(
 ) -> Whole
     ensures program { (result.image ≡ program.image) × (result.notices ≡ program.notices) × (result.remarks ≡ program.remarks) }
     ensures facts { result.facts ≡ record {
-      unit = reading.unit;
+      lengths = reading.lengths;
       is_rewritten = reading.is_rewritten;
       losses = losses;
       unused = reading.unused;
@@ -314,6 +328,9 @@ fn whole_of(
       is_as_written = program.is_as_written;
       says_unit = unit_said lines.now;
       says_mode = mode_said lines.now;
+      says_sensor = sensor_said lines.now;
+      tips = reading.tips;
+      unlooked = reading.unlooked;
     } }
 {
     let Program {
@@ -323,12 +340,14 @@ fn whole_of(
         is_as_written,
     } = program;
     let Reading {
-        unit,
+        lengths,
         is_rewritten,
         unused,
+        tips,
+        unlooked,
     } = reading;
     let facts = Facts {
-        unit,
+        lengths,
         is_rewritten,
         losses,
         unused,
@@ -337,6 +356,9 @@ fn whole_of(
         is_as_written,
         says_unit: says_unit(lines),
         says_mode: says_mode(lines),
+        says_sensor: says_sensor(lines),
+        tips,
+        unlooked,
     };
     Whole {
         image,
@@ -357,10 +379,10 @@ fn build_statements(
 ) -> Result<Whole, Refusal>
     requires shaped { refused_from false lines.now ≡ None }
     requires statements { statements.items ≡ statements_of choices.now text.now lines.now }
-    ensures built { IfOk result (λ w. ReadsPlain text.now reading.unit lines.now → reading.is_rewritten ≡ rewrites text.now reading.unit
-        → reading.unused ≡ unused choices.now lines.now (said_all lines.now)
+    ensures built { IfOk result (λ w. ReadsPlain text.now reading.lengths lines.now → reading.is_rewritten ≡ rewrites text.now reading.lengths
+        → reading.unused ≡ unused choices.now lines.now (said_all lines.now) → reading.tips ≡ other_tips choices.now.tip lines.now → reading.unlooked ≡ unlooked lines.now
         → IsWholeBuilt choices.now text.now w.image.items w.notices.items w.remarks.items w.facts) }
-    ensures refused { IfErr result (λ r. ReadsPlain text.now reading.unit lines.now → IsWholeRefusal choices.now text.now r) }
+    ensures refused { IfErr result (λ r. ReadsPlain text.now reading.lengths lines.now → IsWholeRefusal choices.now text.now r) }
 {
     let Ok(losses) = lossy_lines(alloc, &statements) else {
         return Err(Refusal::NoMemory);
@@ -386,19 +408,19 @@ fn build_said(
     alloc: Global,
     choices: &Choices,
     text: &[u8],
-    unit: Unit,
+    lengths: Lengths,
     is_rewritten: bool,
     lines: &[Logical],
 ) -> Result<Whole, Refusal>
     requires { refused_from false lines.now ≡ None }
-    ensures built { IfOk result (λ w. ReadsPlain text.now unit lines.now → is_rewritten ≡ rewrites text.now unit
+    ensures built { IfOk result (λ w. ReadsPlain text.now lengths lines.now → is_rewritten ≡ rewrites text.now lengths
         → IsWholeBuilt choices.now text.now w.image.items w.notices.items w.remarks.items w.facts) }
-    ensures refused { IfErr result (λ r. ReadsPlain text.now unit lines.now → IsWholeRefusal choices.now text.now r) }
+    ensures refused { IfErr result (λ r. ReadsPlain text.now lengths lines.now → IsWholeRefusal choices.now text.now r) }
 {
     let Ok(said) = say_all(alloc, lines) else {
         return Err(Refusal::NoMemory);
     };
-    let Ok(reading) = reading_of(alloc, choices, unit, is_rewritten, lines, &said) else {
+    let Ok(reading) = reading_of(alloc, choices, lengths, is_rewritten, lines, &said) else {
         return Err(Refusal::NoMemory);
     };
     let Ok(statements) = statements_of(alloc, choices, text, lines, said) else {
@@ -412,16 +434,16 @@ fn build_lines(
     alloc: Global,
     choices: &Choices,
     text: &[u8],
-    unit: Unit,
+    lengths: Lengths,
     is_rewritten: bool,
     lines: &[Logical],
 ) -> Result<Whole, Refusal>
-    ensures built { IfOk result (λ w. ReadsPlain text.now unit lines.now → is_rewritten ≡ rewrites text.now unit
+    ensures built { IfOk result (λ w. ReadsPlain text.now lengths lines.now → is_rewritten ≡ rewrites text.now lengths
         → IsWholeBuilt choices.now text.now w.image.items w.notices.items w.remarks.items w.facts) }
-    ensures refused { IfErr result (λ r. ReadsPlain text.now unit lines.now → IsWholeRefusal choices.now text.now r) }
+    ensures refused { IfErr result (λ r. ReadsPlain text.now lengths lines.now → IsWholeRefusal choices.now text.now r) }
 {
     match first_refusal(alloc, lines) {
-        Ok(None) => build_said(alloc, choices, text, unit, is_rewritten, lines),
+        Ok(None) => build_said(alloc, choices, text, lengths, is_rewritten, lines),
         Ok(Some(fault)) => Err(Refusal::Source(fault)),
         Err(_) => Err(Refusal::NoMemory),
     }
@@ -434,31 +456,81 @@ fn rewrites(read: &[u8], text: &[u8]) -> bool
     read != text
 }
 
-// The image of what a text is put as whose lengths are of this unit.
+// The image of what a text is put as whose lengths are read in this way.
 fn build_converted(
     alloc: Global,
     choices: &Choices,
     text: &[u8],
-    unit: Unit,
+    lengths: Lengths,
 ) -> Result<Whole, Refusal>
-    ensures built { IfOk result (λ w. (ls : List Read) → ReadsLines (plain Millimetre text.now) ls → unit ≡ single_unit ls
+    ensures built { IfOk result (λ w. (ls : List Read) → ReadsLines (plain (all_in Millimetre) text.now) ls → lengths ≡ lengths_of ls
         → IsWholeBuilt choices.now text.now w.image.items w.notices.items w.remarks.items w.facts) }
-    ensures refused { IfErr result (λ r. (ls : List Read) → ReadsLines (plain Millimetre text.now) ls → unit ≡ single_unit ls → IsWholeRefusal choices.now text.now r) }
+    ensures refused { IfErr result (λ r. (ls : List Read) → ReadsLines (plain (all_in Millimetre) text.now) ls → lengths ≡ lengths_of ls → IsWholeRefusal choices.now text.now r) }
 {
-    let Ok(read) = plain_text(alloc, unit, text) else {
+    let Ok(read) = plain_text(alloc, lengths, text) else {
         return Err(Refusal::NoMemory);
     };
     match logical_lines(alloc, &read) {
         Ok(lines) => {
             let is_rewritten = rewrites(&read, text);
-            build_lines(alloc, choices, text, unit, is_rewritten, lines.as_slice())
+            build_lines(
+                alloc,
+                choices,
+                text,
+                lengths,
+                is_rewritten,
+                lines.as_slice(),
+            )
         }
         Err(fault) => Err(Refusal::Source(fault)),
     }
 }
 
+// How many statements these lines are put as; none where memory is refused, or a statement is.
+fn count_lines(alloc: Global, choices: &Choices, text: &[u8], lines: &[Logical]) -> Option<usize>
+    ensures { IfSome result (λ n. (u : Measure) → ReadsPlain text.now u lines.now → IsPutAs choices.now text.now n) }
+{
+    match first_refusal(alloc, lines) {
+        Ok(None) => {}
+        _ => return None,
+    }
+    let said = say_all(alloc, lines).ok()?;
+    let statements = statements_of(alloc, choices, text, lines, said).ok()?;
+    let expanded = expand(alloc, statements).ok()?;
+    let Put { all, remarks } = put_text(alloc, expanded).ok()?;
+    drop(remarks);
+    Some(all.len())
+}
+
+// The same of a text whose lengths are read in this way.
+fn count_converted(alloc: Global, choices: &Choices, text: &[u8], lengths: Lengths) -> Option<usize>
+    ensures { IfSome result (λ n. (ls : List Read) → ReadsLines (plain (all_in Millimetre) text.now) ls → lengths ≡ lengths_of ls → IsPutAs choices.now text.now n) }
+{
+    let Ok(read) = plain_text(alloc, lengths, text) else {
+        return None;
+    };
+    match logical_lines(alloc, &read) {
+        Ok(lines) => count_lines(alloc, choices, text, lines.as_slice()),
+        Err(_) => None,
+    }
+}
+
+/// How many statements a text is put as where what is known is carried, also where these are more than a program may have; none where memory is refused, or the text
+/// for something else.
+pub fn count_put(alloc: Global, choices: &Choices, text: &[u8]) -> Option<usize>
+    ensures { IfSome result (IsPutAs choices.now text.now) }
+{
+    let Ok(written) = plain_text(alloc, Lengths::all_in(Unit::Millimetre), text) else {
+        return None;
+    };
+    match logical_lines(alloc, &written) {
+        Ok(lines) => count_converted(alloc, choices, text, lengths_of(lines.as_slice())),
+        Err(_) => None,
+    }
+}
+
 /// The image of the program that a producer's text is put as, with the remarks on its statements. Each statement of the text is put by itself, with its line; what
-/// isn't followed is a remark. Numbers of places and lengths are rounded to whole micrometres, and converted where all of the text is in one other unit.
+/// isn't followed is a remark. Numbers of places and lengths are rounded to whole micrometres, and converted from the units of the text.
 ///
 /// # Errors
 ///
@@ -469,11 +541,11 @@ pub fn build_whole(alloc: Global, choices: &Choices, text: &[u8]) -> Result<Whol
     ensures built { IfOk result (λ w. IsWholeBuilt choices.now text.now w.image.items w.notices.items w.remarks.items w.facts) }
     ensures refused { IfErr result (IsWholeRefusal choices.now text.now) }
 {
-    let Ok(written) = plain_text(alloc, Unit::Millimetre, text) else {
+    let Ok(written) = plain_text(alloc, Lengths::all_in(Unit::Millimetre), text) else {
         return Err(Refusal::NoMemory);
     };
     match logical_lines(alloc, &written) {
-        Ok(lines) => build_converted(alloc, choices, text, single_unit(lines.as_slice())),
+        Ok(lines) => build_converted(alloc, choices, text, lengths_of(lines.as_slice())),
         Err(fault) => Err(Refusal::Source(fault)),
     }
 }

@@ -6,8 +6,8 @@ use Rattle.vcm_forms.specs.declared.statement.Form.TheVariants as form
 use Rattle.vcm_events.specs.declared.event.Event.TheVariants as events
 use Rattle.vcm_events.specs.Events.{lost, gained}
 use Rattle.vcm_events.specs.Unknown.{unknown, unknown_rounds}
-use Rattle.vcm_doubts.specs.Doubts.{Doubts, is_among}
-use Rattle.vcm_doubts.specs.Settled.{Known, is_unfollowed, is_doubtful_call}
+use Rattle.vcm_doubts.specs.Doubts.{Doubts, is_among, is_in_reach}
+use Rattle.vcm_doubts.specs.Settled.{Macros, is_unfollowed, is_doubtful_call}
 
 -- whether there are names
 abbrev pub are_names : List (List ℕ) → Bool
@@ -20,7 +20,7 @@ is_doubtful_point d None = are_names d.spelled
 is_doubtful_point d (Some given) = false
 
 -- whether something of a statement is in doubt
-abbrev pub is_in_doubt : Doubts → List Known → Form → Bool
+abbrev pub is_in_doubt : Doubts → Macros → Form → Bool
 is_in_doubt d ms (form.Assignment t value) = is_unfollowed d t.name
 is_in_doubt d ms (form.Query t side l word) = is_unfollowed d t.name || is_among d.spelled l
 is_in_doubt d ms (form.Test c) = d.splits
@@ -29,8 +29,8 @@ is_in_doubt d ms (form.Repeat r) = d.splits || is_unfollowed d r.variable.name
 is_in_doubt d ms (form.Restore l) = is_among d.spelled l
 is_in_doubt d ms (form.Report side l) = is_among d.spelled l
 is_in_doubt d ms (form.Touch p given) = is_doubtful_point d given
-is_in_doubt d ms (form.Leap name) = not (is_among d.labels name) || is_among d.spelled name
-is_in_doubt d ms (form.Call name args) = is_doubtful_call d ms name args
+is_in_doubt d ms (form.Leap name) = not (is_in_reach d.labels ms.blocks name) || is_among d.spelled name
+is_in_doubt d ms (form.Call name args) = is_doubtful_call d ms.above name args
 is_in_doubt d ms f = false
 
 -- what a statement that is in doubt is put as, if it is put as anything
@@ -43,6 +43,7 @@ instead (form.Repeat r) = Some (form.Repeat unknown_rounds)
 instead (form.Restore l) = Some (lost events.Frame)
 instead (form.Touch p given) = Some (gained events.UntriedPoint)
 instead (form.Leap name) = Some (gained events.Ends)
+instead (form.Report side l) = Some (gained events.Unreported)
 instead (form.Call name args) = Some (lost events.All)
 instead f = None
 

@@ -3,11 +3,13 @@ use Rattle.std.specs.Prelude.{Bool, true, false}
 use Rattle.vcm_forms.specs.declared.statement.Form.{Form}
 use Rattle.vcm_forms.specs.declared.statement.Form.TheVariants as form
 use Rattle.vcm_kept.specs.declared.guarding.Above.{Above}
-use Rattle.vcm_kept.specs.Guarding.{Reached}
+use Rattle.vcm_kept.specs.declared.guarding.Passing.{Passing}
+use Rattle.vcm_kept.specs.declared.guarding.Passing.TheVariants.{Branch, Label, Nothing}
+use Rattle.vcm_kept.specs.Guarding.{Reached, branched, doubted}
 
 -- what the code keeps says this
 abbrev pub reached : Above → Reached
-reached a = record { variables = a.names; frames = a.frames; features = a.features; measuring = a.measuring; aiming = a.aiming; assigned = a.assigned.items; blocks = a.blocks }
+reached a = record { variables = a.names; frames = a.frames; features = a.features; within = a.within; since = a.since; measuring = a.measuring; aiming = a.aiming; assigned = a.assigned.items; blocks = a.blocks }
 
 -- whether a statement opens a block of a choice or a loop, or closes one
 abbrev pub is_block : Form → Bool
@@ -40,3 +42,18 @@ is_other (form.Restore l) = false
 is_other (form.Query t side l word) = false
 is_other (form.Report side l) = false
 is_other f = is_state f
+
+-- what a statement that opens no block and closes none does to what stands above
+abbrev pub passing_of : Form → Passing
+passing_of (form.Case n) = Branch
+passing_of form.Default = Branch
+passing_of form.CaseEnd = Branch
+passing_of form.Otherwise = Branch
+passing_of (form.Mark name) = Label
+passing_of f = Nothing
+
+-- the same is done
+abbrev pub passes : Passing → Reached → Reached
+passes Branch r = branched r
+passes Label r = doubted r
+passes Nothing r = r

@@ -7,6 +7,6 @@ use Rattle.vcm_given.proofs.choosing.put_all.Given as goal
 abbrev pub invariant-loop-statement : goal.invariant-loop-statement
 invariant-loop-statement l = record {
   size : into_iter_len l.statement-iterator ≡ length (into_iter_items l.statement-iterator);
-  left : l.out.items ++ flat_map (chosen_statement l.choices l.asked) (into_iter_items l.statement-iterator)
-      ≡ l.initial.out.items ++ flat_map (chosen_statement l.choices l.asked) (into_iter_items l.initial.statement-iterator);
+  left : l.out.items ++ flat_map (chosen_statement l.choices l.asked l.spoken l.tips) (into_iter_items l.statement-iterator)
+      ≡ l.initial.out.items ++ flat_map (chosen_statement l.choices l.asked l.spoken l.tips) (into_iter_items l.initial.statement-iterator);
 }

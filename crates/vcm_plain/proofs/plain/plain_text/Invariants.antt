@@ -4,5 +4,5 @@ use Rattle.vcm_plain.proofs.plain.plain_text.Given as goal
 
 abbrev pub invariant-loop-byte : goal.invariant-loop-byte
 invariant-loop-byte l = record {
-  left : read_from l.unit nothing_read l.text ≡ read_from l.unit l.reader (drop l.byte-index l.text);
+  left : read_from l.lengths.several (nothing_read l.lengths.unit) l.text ≡ read_from l.lengths.several l.reader (drop l.byte-index l.text);
 }

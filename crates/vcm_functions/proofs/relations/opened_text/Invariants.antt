@@ -1,0 +1,8 @@
+use Rattle.std.proofs.Common.{◌≡◌, drop}
+use Rattle.vcm_functions.specs.Relations.{read_from, nothing_read}
+use Rattle.vcm_functions.proofs.relations.opened_text.Given as goal
+
+abbrev pub invariant-loop-byte : goal.invariant-loop-byte
+invariant-loop-byte l = record {
+  left : read_from nothing_read l.bytes ≡ read_from l.reader (drop l.byte-index l.bytes);
+}

@@ -1,0 +1,9 @@
+pub mod Calls
+pub mod Cosines
+pub mod Folded
+pub mod Laws
+pub mod Literals
+pub mod Relations
+pub mod Samples
+pub mod Values
+pub mod Words

@@ -1,0 +1,9 @@
+use Rattle.std.proofs.Common.{◌≡◌, ◌++◌, drop}
+use Rattle.std.specs.List.{flat_map}
+use Rattle.vcm_kept.specs.Late.{feature_made}
+use Rattle.vcm_kept.proofs.late.features_of.Given as goal
+
+abbrev pub invariant-loop-placed : goal.invariant-loop-placed
+invariant-loop-placed l = record {
+  left : flat_map (λ p. feature_made p.statement.form) l.all ≡ l.out.items ++ flat_map (λ p. feature_made p.statement.form) (drop l.placed-index l.all);
+}
