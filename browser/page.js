@@ -95,6 +95,10 @@ class Page {
   words(command) {
     return wordsOf(command, this.given, this.whole && wholeWords(this.whole));
   }
+  // The words that ask for the page of the run.
+  get viewWords() {
+    return ["view", ...this.words("run").slice(1)];
+  }
   // Judges and runs the texts as they stand now. A call that was ended, or a later turn, ends this one.
   async judge() {
     const turn = ++this.turn;
@@ -195,13 +199,13 @@ class Page {
     return told.status === 0 ? flowing(told.text) : "";
   }
   async show(ran, part, ask) {
-    const isRun = hasRun(ran) && !this.whole, isBare = !isRun && (this.run === null || this.whole !== null);
+    const isRun = hasRun(ran), isBare = !isRun && this.run === null;
     $("page-save").disabled = !isRun;
     $("old").hidden = isRun;
-    $("old").textContent = this.whole && hasRun(ran) ? "the part alone: steps of a whole text are told and not drawn" : this.run === null ? "the part alone: no run of these texts" : "the run of the texts before";
+    $("old").textContent = this.run === null ? "the part alone: no run of these texts" : "the run of the texts before";
     if (!isRun && !isBare) return this.viewer.setOld(true);
     if (isBare && part.status !== 0) return this.viewer.setOld(true);
-    const page = isBare ? await ask(["view", "nothing", this.names.part], { nothing: encoder.encode(NOTHING) }) : await ask(["view", ...commands.run.words(this.given), ...(this.hasProbe ? ["--probe", this.names.probe] : [])]);
+    const page = isBare ? await ask(["view", "nothing", this.names.part], { nothing: encoder.encode(NOTHING) }) : await ask([...this.viewWords, ...(this.hasProbe ? ["--probe", this.names.probe] : [])]);
     if (isBare && page.status !== 0) return this.viewer.setOld(true);
     // a frame takes the page for a while, so none is made between two keys
     this.busy(false);
@@ -214,7 +218,7 @@ class Page {
     this.viewer.show(page.text, isBare);
   }
   async showWithoutBoxes(ask) {
-    const page = await ask(["view", ...commands.run.words(this.given)]);
+    const page = await ask(this.viewWords);
     if (!hasRun(page)) return;
     this.run = page.out;
     this.viewer.show(page.text);
@@ -241,7 +245,7 @@ class Page {
     document.title = "vcm \u2013 " + shown(verdict.headline);
     $("to-line").hidden = !verdict.line;
     $("to-line").textContent = `Go to line ${verdict.line}` + (verdict.which === "program" ? "" : ` of the ${verdict.which}`);
-    $("to-contact").hidden = !verdict.contact || this.whole !== null;
+    $("to-contact").hidden = !verdict.contact;
   }
   mark({ faults, stop, why, untried, unused, notices, met }) {
     const of = (which) => faults.filter((it) => it.which === which).flatMap((it) => it.lines.slice(0, 1000).map((line, i) => ({ line, message: i ? "" : it.text + (which === "program" ? "" : ": " + it.statement), word: this.wordOf(it) })));

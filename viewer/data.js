@@ -82,15 +82,21 @@ function frameOf(name, words) {
   return { name, origin: words.slice(0, 3).map(Number), axes: words.slice(3, 6) };
 }
 
+// Whether a variable or a frame is one that no text names: it carries what is known of a whole program.
+const isCarried = (name) => Number(name.split("#")[1] || 0) > 2147483647 || /^(0|_{16}$)/.test(name);
+
 // Whether part coordinates are the machine's.
 const isMachine = (frame) => frame.origin.every((x) => x === 0) && frame.axes.join() === "+X,+Y,+Z";
+
+// What is told of a step that sets a variable which no text names.
+const CARRIED = "carries what is known";
 
 // The run of a data block.
 function readRun(text) {
   const run = {
     low: null, high: null, home: null, tip: 0, blocks: [], names: new Map(), lines: [], code: [], notices: [], from: 0, listed: null, aims: new Map(),
     variables: new Map(), settings: new Map(), nominal: new Map(), actual: new Map(), frame: new Changes(null),
-    output: new Changes(null), touches: [], contact: null, stop: null, open: null, counts: new Map(), boxes: [],
+    output: new Changes(null), touches: [], contact: null, stop: null, open: null, counts: new Map(), boxes: [], untried: null,
   };
   const statement = new Numbers(Uint32Array), line = new Numbers(Uint32Array), position = new Numbers(Float64Array);
   const done = [""], pieceFrom = new Numbers(Uint32Array);
@@ -130,7 +136,7 @@ function readRun(text) {
       else if (said.includes("=")) {
         const [name, value] = said.split(" ")[0].split("=");
         const map = word === "SNSET" ? run.settings : run.variables;
-        map.get(name).changes.add(step, value);
+        if (map.has(name)) map.get(name).changes.add(step, value); else done[step] = CARRIED;
       }
       continue;
     }
@@ -142,10 +148,10 @@ function readRun(text) {
       case "H": run.home = words.map(Number); break;
       case "T": run.tip = Number(rest); break;
       case "B": run.blocks.push(words.map(Number)); break;
-      case "L": run.lines.push(shownText(rest)); break;
+      case "L": run.lines.push(shownText(rest).replace(/\u240d$/, "")); break;
       case "I": run.listed = Number(rest); break;
       case "C": run.code.push({ line: Number(words[0]), word: words[1] }); break;
-      case "V": run.variables.set(words[0], { kind: words[1], changes: new Changes(words[2]) }); break;
+      case "V": if (!isCarried(words[0])) run.variables.set(words[0], { kind: words[1], changes: new Changes(words[2]) }); break;
       case "S": run.settings.set(words[0], { changes: new Changes(words[1]) }); break;
       case "N": run.notices.push({ line: Number(words[0]), word: words[1] }); break;
       case "D": run.frame.first = frameOf(null, words); break;
@@ -164,7 +170,7 @@ function readRun(text) {
         break;
       case "t": run.touches.push({ step, at: words.slice(0, 3).map(Number), name: words[3] }); break;
       case "c": run.contact = { step, at: words.slice(0, 3).map(Number), block: Number(words[3]) }; break;
-      case "d": run.frame.add(step, frameOf(words[0], words.slice(1))); break;
+      case "d": run.frame.add(step, frameOf(isCarried(words[0]) ? null : words[0], words.slice(1))); break;
       case "o": run.output.add(step, shownText(rest)); break;
       default: throw new Error("row " + (i + 1) + " of the data has an unknown key");
     }
@@ -181,13 +187,54 @@ function readRun(text) {
   run.pieceStep = pieceStep.done();
   run.touchSteps = new Changes(null);
   for (const touch of run.touches) run.touchSteps.add(touch.step, touch);
-  for (let k = 1; k <= step; k++) {
-    const row = rowAt(run, k), list = run.counts.get(row);
-    if (list) list.push(k); else run.counts.set(row, [k]);
-  }
+  countSteps(run, () => true);
   const title = run.lines.map((it) => /^\s*DMISMN\s*\/\s*'([^']*)'/i.exec(it)).find((it) => it);
   run.title = title ? title[1] : "Run of an image";
   return run;
+}
+
+// For each line the steps at which it is carried out.
+function countSteps(run, isOne) {
+  run.counts.clear();
+  for (let k = 1; k <= run.length; k++) {
+    const row = rowAt(run, k), list = run.counts.get(row);
+    if (!isOne(k)) continue;
+    if (list) list.push(k); else run.counts.set(row, [k]);
+  }
+}
+
+// What is known of the machine behind a step: the frame, the mode, the table and the place of the probe.
+const knownThings = ["Frame", "Mode", "Table", "Place"];
+
+// What of a whole program wasn't tried, from lines `W WORDS` of the head, `U LINE COUNT WORDS`, `M STEP NUMBER` with the number of such a line, `E STEP` of a way that
+// begins elsewhere, and `Y STEP FRAME MODE TABLE PLACE` where something else is known. A line of the text is put as several statements: it is carried out once
+// however many of them are. The end of what it is put as may stand behind other lines.
+function readUntried(run, text) {
+  const found = (run.untried = { told: [], lines: new Map(), steps: new Map(), known: new Changes([true, true, true, true]) }), rows = [];
+  for (const row of text.split("\n")) {
+    const words = row.split(" "), step = Number(words[1]) - run.from;
+    if (row[0] === "W") found.told.push(shownText(row.slice(2)));
+    else if (row[0] === "U") {
+      const line = Number(words[1]), it = { count: Number(words[2]), text: shownText(words.slice(3).join(" ")) };
+      rows.push(it);
+      found.lines.set(line, [...(found.lines.get(line) || []), it]);
+    } else if (row[0] === "M") found.steps.set(step, rows[Number(words[2])].text);
+    else if (row[0] === "E" && step > 0) beginElsewhere(run, step);
+    else if (row[0] === "Y") {
+      const known = words.slice(2).map((it) => it === "1");
+      if (step > 0) found.known.add(step, known); else found.known.first = known;
+    }
+  }
+  const words = new Map();
+  for (let i = run.code.length - 1; i >= 0; i--) words.set(rowOf(run, i), run.code[i].word);
+  const isEnd = (k) => /^(ELSE|END(IF|DO|CAS|SEL))$/.test(run.code[run.statement[k]].word) && run.code[run.statement[k]].word !== words.get(rowAt(run, k));
+  countSteps(run, (k) => (k === 1 || rowAt(run, k) !== rowAt(run, k - 1) || run.statement[k] <= run.statement[k - 1]) && !isEnd(k));
+}
+
+// The first piece of a step begins elsewhere.
+function beginElsewhere(run, step) {
+  const i = run.pieceFrom[step];
+  if (i < run.pieceFrom[step + 1] && run.kinds[i] !== "x") run.kinds[i] = "e";
 }
 
 // The boxes of a probe, from lines `Q NAME LOW HIGH`, each with its contacts in the run and with how much room is left round it, from the lines of its clearance.

@@ -9,6 +9,8 @@ class Listing {
     this.stopLine = stopLineOf(run);
     this.stated = new Set(run.code.map((_, i) => rowOf(run, i)));
     this.noticed = new Map(run.notices.map((it) => [it.line, it.word]));
+    // lines of which something wasn't tried, each with what
+    this.untried = new Map([...(run.untried ? run.untried.lines : [])].map(([line, all]) => [line, all.map((it) => it.text + (it.count > 1 ? `, ${it.count} times` : "")).join("; ")]));
     this.touching = new Set(run.touches.map((it) => rowAt(run, it.step)));
     // lines in which a box of the probe meets a block, each with what it meets
     this.meeting = new Map(run.boxes.flatMap((own) => own.contacts.filter((it) => it.step > 0).map((it) => [rowAt(run, it.step), metText(run, own, it)])).reverse());
@@ -65,7 +67,7 @@ class Listing {
   row(n) {
     const { run } = this, row = element("div", undefined, "line"), times = run.counts.get(n), isStop = n === this.stopLine || this.meeting.has(n);
     row.dataset.line = n;
-    const [text, kind, title] = isStop ? ["\u2715", " stop", n === this.stopLine ? run.stop.text : this.meeting.get(n)] : this.touching.has(n) ? ["\u25cf", " touch", "measures"] : this.noticed.has(n) ? ["!", " notice", this.noticed.get(n) + " has no effect"] : ["", "", ""];
+    const [text, kind, title] = isStop ? ["\u2715", " stop", n === this.stopLine ? run.stop.text : this.meeting.get(n)] : this.untried.has(n) ? ["?", " untried", this.untried.get(n)] : this.touching.has(n) ? ["\u25cf", " touch", "measures"] : this.noticed.has(n) ? ["!", " notice", this.noticed.get(n) + " has no effect"] : ["", "", ""];
     const sign = element("span", text, "sign" + kind);
     if (title) sign.title = title;
     if (times) row.classList.add("ran");
@@ -73,6 +75,7 @@ class Listing {
       row.classList.add("idle");
       row.title = "not carried out in this run";
     }
+    if (this.untried.has(n)) row.classList.add("untried");
     row.append(element("span", String(n), "number"), sign, this.coloured(run.lines[n - 1]));
     if (times && times.length > 1) {
       const count = element("span", "\u00d7" + times.length.toLocaleString("en"), "times");

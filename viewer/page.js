@@ -5,6 +5,7 @@
   try {
     run = readRun($("run").textContent);
     if ($("block-names")) readNames(run, $("block-names").textContent);
+    if ($("untried")) readUntried(run, $("untried").textContent);
     if ($("probe-boxes")) readBoxes(run, $("probe-boxes").textContent);
   } catch (fault) {
     $("fault").hidden = false;
@@ -19,13 +20,15 @@
 
   // ---- the head
 
-  const told = verdictOf(run);
+  const told = verdictWithUntried(run);
   $("title").textContent = run.title;
   document.title = run.title + " \u2013 " + told.text;
   $("verdict").className = "verdict " + told.kind;
-  $("verdict").append(element("span", { ok: "\u2713", bad: "\u2715", warn: "\u2026" }[told.kind], "sign"), " " + told.text);
+  $("verdict").append(element("span", told.sign || { ok: "\u2713", bad: "\u2715", warn: "\u2026" }[told.kind], "sign"), " " + told.text);
   $("verdict").title = run.stop ? run.stop.text : told.line;
   $("facts").textContent = factsOf(run);
+  $("not-tried").hidden = !isPartly(run);
+  if (isPartly(run)) $("not-tried").replaceChildren(...run.untried.told.map((it) => element("li", it)));
 
   const listing = isFramed ? null : new Listing(run, $("program"));
   const panel = new Panel(run);
@@ -46,7 +49,7 @@
     now = k;
     const probe = shownAt(run, k), slider = $("slider");
     slider.value = k;
-    slider.setAttribute("aria-valuetext", k ? `step ${k + run.from}, line ${run.line[k]}, ${run.code[run.statement[k]].word} ${doneText(run, k)}` : "the start");
+    slider.setAttribute("aria-valuetext", k ? `step ${k + run.from}, line ${run.line[k]}, ${wordAt(run, k)} ${doneText(run, k)}` : "the start");
     $("number").value = k + run.from;
     document.documentElement.dataset.line = k ? rowAt(run, k) : 0;
     document.documentElement.dataset.step = k;
@@ -92,7 +95,7 @@
     return places;
   }
   function time(k) {
-    return Math.max(140, Math.min(1600, (2200 * wayOf(k).reduce((sum, it) => sum + long(it), 0)) / whole)) / Number($("speed").value);
+    return Math.max(run.untried && !isEvent(run, k) ? 20 : 140, Math.min(1600, (2200 * wayOf(k).reduce((sum, it) => sum + long(it), 0)) / whole)) / Number($("speed").value);
   }
   function frame(t) {
     if (!playing) return;

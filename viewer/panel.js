@@ -16,7 +16,7 @@ class Panel {
       $("settings").append(element("dt", name), value);
       return { it, value };
     });
-    this.boxes = run.boxes.flatMap((box) => (box.contacts.length ? box.contacts.slice(0, MOST_CONTACTS).map((contact, i) => this.boxRow(i ? "" : box.name, `${contact.kind} ${blockText(run, contact.block)} at ${contact.at.map(millimetres).join(" ")}`, contact)) : [this.boxRow(box.name, `clear by ${millimetres(box.room)} mm${box.room < 50000 ? "" : " or more"}`, null)]));
+    this.boxes = run.boxes.flatMap((box) => (box.contacts.length ? box.contacts.slice(0, MOST_CONTACTS).map((contact, i) => this.boxRow(i ? "" : box.name, `${contact.kind} ${blockText(run, contact.block)} at ${contact.at.map(millimetres).join(" ")}`, contact)) : [this.boxRow(box.name, `clear by ${millimetres(box.room)} mm${box.room < 50000 ? "" : " or more"}${isPartly(run) ? ", on the ways that were tried" : ""}`, null)]));
     $("boxes").tBodies[0].replaceChildren(...this.boxes.map((it) => it.row));
     for (const [id, has] of [["variables-section", run.variables.size], ["points-section", run.touches.length], ["boxes-section", run.boxes.length], ["output-section", run.output.steps.length], ["notices-section", run.notices.length]]) $(id).hidden = has === 0;
     $("variables-filter").hidden = run.variables.size <= 20;
@@ -45,11 +45,12 @@ class Panel {
   showStep(k) {
     const { run } = this, stops = k > 0 && run.stop !== null && k === run.stop.step, fails = stops && this.stopLine > 0;
     const met = contactsIn(run, k).map(({ box, contact }) => `${metText(run, box, contact)} at ${contact.at.map(millimetres).join(" ")}, in its ${contact.kind.toLowerCase()}`);
-    const ended = fails ? this.ending.text + ". The probe stays where it was." : stops ? "the run has come to its end" : doneText(run, k);
-    setText($("step-title"), k === 0 ? (run.from ? "Behind step " + run.from : "Start") : "Step " + (k + run.from) + " \u00b7 line " + run.line[k] + " \u00b7 " + run.code[run.statement[k]].word);
+    const untried = run.untried && run.untried.steps.has(k);
+    const ended = fails ? this.ending.text + ". The probe stays where it was." : stops ? "the run has come to its end" + (isPartly(run) ? "; not all of it was tried" : "") : doneText(run, k);
+    setText($("step-title"), k === 0 ? (run.from ? "Behind step " + run.from : "Start") : "Step " + (k + run.from) + " \u00b7 line " + run.line[k] + (wordAt(run, k) ? " \u00b7 " + wordAt(run, k) : ""));
     setText($("step-done"), [...met, ...(met.length && ended ? ["then " + ended] : [ended])].join("; "));
     setText($("step-line"), fails ? run.done[k] : "");
-    setClass($("step-done"), "done" + (fails || met.length ? " bad" : stops && !run.firstMet ? " ok" : ""));
+    setClass($("step-done"), "done" + (fails || met.length ? " bad" : untried || (stops && isPartly(run)) ? " warn" : stops && !run.firstMet ? " ok" : ""));
   }
   showProbe(k) {
     const { run } = this, at = positionAt(run, k), frame = run.frame.at(k), next = nextAt(run, k), places = [["Machine", at]], entries = [], add = (name, value) => entries.push(element("dt", name), typeof value === "string" ? element("dd", value) : value);
@@ -68,9 +69,17 @@ class Panel {
       if (run.names.has(number)) add("Block " + number, run.names.get(number));
       places.push(["Block " + number, block.slice(0, 3)], ["", block.slice(3)]);
     }
+    if (run.untried) add("Known", this.knownValue(run.untried.known.at(k)));
     add("Next", next ? "line " + next.line + " " + (run.code[next.statement] ? run.code[next.statement].word : "") : "nothing: the run has stopped");
     $("probe").replaceChildren(...entries);
     this.showPlaces(places);
+  }
+  // What is known of the machine, and what isn't.
+  knownValue(known) {
+    const value = element("dd"), lost = knownThings.filter((_, i) => !known[i]).map((it) => it.toLowerCase());
+    value.append(knownThings.filter((_, i) => known[i]).join(", ").toLowerCase() || "nothing");
+    if (lost.length) value.append(element("span", "not known: " + lost.join(", "), "lost"));
+    return value;
   }
   // Points as rows of three numbers, below each other. Where numbers are wide the name stands above them, and where they are very wide each has a line of its own.
   showPlaces(places) {

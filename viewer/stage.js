@@ -40,7 +40,7 @@ class Stage {
   }
   makeLegend() {
     const { run } = this, legend = $("legend"), kinds = new Set(run.kinds);
-    for (const kind of "masrx") if (kinds.has(kind)) legend.append(element("span", kindNames[kind], "key " + kind), " ");
+    for (const kind of "measrx") if (kinds.has(kind)) legend.append(element("span", kindNames[kind], "key " + kind), " ");
     if (run.touches.length) legend.append(element("span", "touched", "key dot"), " ");
     legend.append(element("span", "probe", "key ring"));
   }

@@ -34,12 +34,23 @@ function wayText(run, kind, permille) {
   return `${far(contact.at)} mm into ${kind === "approach" ? "an" : "a"} ${kind} of ${far(aim)} mm`;
 }
 
+// Whether something of the text wasn't tried.
+const isPartly = (run) => run.untried !== null && run.untried.told.length > 0;
+
 // The verdict of the page: what the boxes of the probe meet is told first, and then how the run ended.
 function verdictOf(run) {
   const told = endingOf(run), first = run.firstMet, more = run.boxes.filter((it) => it.contacts.length).length - 1;
   if (!first) return told;
   const text = `${first.name} meets ${blockText(run, first.block)} on line ${first.line}` + (more > 0 ? `, and ${more} more of the boxes meet blocks` : "");
   return { ...told, kind: "bad", text: told.kind === "ok" ? `${text}; the tip itself meets nothing` : `${text}; ${told.text}` };
+}
+
+// The verdict with what wasn't tried: what ended well is no more than that, and no run is green of which something wasn't tried.
+function verdictWithUntried(run) {
+  const told = verdictOf(run);
+  if (!isPartly(run)) return told;
+  const text = `${told.text}; not all of it was tried`;
+  return told.kind === "ok" ? { ...told, kind: "warn", sign: "?", text } : { ...told, text };
 }
 
 // What a page is about, in numbers.
@@ -51,11 +62,16 @@ function factsOf(run) {
   return facts.join(" \u00b7 ") + (run.from ? ` \u00b7 shown: the last ${run.length.toLocaleString("en")} steps` : "");
 }
 
+// The word of a step's statement, but of one that carries what is known.
+const wordAt = (run, k) => (run.done[k] === CARRIED ? "" : run.code[run.statement[k]].word);
+
 // What a step did, for a reader.
 function doneText(run, k) {
   if (k === 0) return run.from ? "the steps before this are not in this page" : "the start";
+  if (run.untried && run.untried.steps.has(k)) return run.untried.steps.get(k);
   const said = run.done[k], next = /(?:^| )next (\d+)$/.exec(said);
   const where = next && run.code[Number(next[1])] ? "on to line " + run.code[Number(next[1])].line : "";
+  if (said === CARRIED) return CARRIED;
   if (said === "moved") return "to " + positionAt(run, k).map(millimetres).join(" ");
   if (said.startsWith("stop ")) return said;
   if (said.startsWith("FA(")) return said.replace(/^FA\((\w+)\) /, "$1 touched at ");

@@ -68,6 +68,7 @@ MADE = (
 
 LINES = "break 1\nrun\nwhere\nstep 3\nwatch i\nrun\nback 2\nback 2\nshow i\nout\nlist\nrun\nrun\nreverse\nreverse\nout 2\nrun\nwhere\nquit\n"
 LONG = "step 40\nback 3\nback 3\nstep 9\nout 2\nback 17\nshow i\nline 5\nbreak 1\nrun\nrun 20\nreverse\nclear 1\nunwatch i\nwatch i\nreverse\nrun\nstep 200\nwhere\nback 60\nrun\nrun\nout\nwhere\n"
+OVERS = "known\nover\nover 2\nknown\nrun\nknown\nreverse\nover 3\nover 200\nquit\n"
 TALKED = "b 5\nr\npos\n\ns 2\ns 2\nwa i\nr\np i\nw\nu 2\nl\nrev\nbs\ncl 5\nrun\no 2\nhelp\nnonsense\nwhere\nq\n"
 # Each number of steps back from 100, and forth again.
 BACKS = "step 100\n" + "".join(f"back {it}\nshow i\nstep {it}\n" for it in range(1, 101))
@@ -79,7 +80,7 @@ FOR_GOOD = 1_000_000
 PROGRAMS = ("above", "touch", "grid", "lines", "stations")
 TALKS = (
     "Emacs grid", "Emacs collision", "Emacs moved-breakpoint", "Emacs select-and-tip", "Emacs step-limit", "Emacs without-debugging", "Emacs image",
-    "Emacs refused launches", "VS Code grid", "breakpoints that can't be", "watches that can't be", "no such rows", "a notice", "at a stop",
+    "Emacs refused launches", "VS Code grid", "breakpoints that can't be", "watches that can't be", "no such rows", "a notice", "at a stop", "by lines", "whole, refused",
 )
 # Words of the table of `vcm explain`, a message, a word of the standard, and what nothing is known of.
 EXPLAINED = (["E14"], ["E14", "E01"], ["stop", "COLLISION", "MOVE", "block", "1", "permille", "888", "at", "0", "line", "3"], ["E14", "Z01"], ["TOL"], [])
@@ -190,6 +191,17 @@ def runs():
     yield case("why lost.dmi part-a.toml --whole", status=3)
     yield case("points lost.dmi part-a.toml --whole", kind="lines", status=3)
     yield case("check touch.dmi square.dmi --whole", kind="several")
+    yield case("contacts lost.dmi part-a.toml --whole", kind="lines", status=3)
+    table = "--harmless WAIT --table 0"
+    for command in ("clearance", "contacts", "margin", "picture", "view"):
+        kind = {"clearance": "lines", "contacts": "lines", "view": "page"}.get(command, "")
+        parts = "part-a.toml stylus.toml" if command == "clearance" else "part-a.toml"
+        yield case(f"{command} asked.dmi {parts} --whole {given}", kind=kind)
+        yield case(f"{command} waits.dmi {parts} --whole {table}", kind=kind, status=7)
+    for option in ("", " --close", " --sheet", " --lines 4-7"):
+        yield case(f"picture lost.dmi part-a.toml --whole{option}", status=3)
+    yield case("view lost.dmi part-a.toml --whole --probe stylus.toml", kind="page", status=3)
+    yield case("view square.dmi part-a.toml --whole", kind="page")
     yield case("run points.dmi part-a.toml --whole", status=7)
     yield case("trace turned.dmi torn.toml", status=1)
     for command in ("run", "why", "contacts", "trace", "margin", "points", "picture", "view"):
@@ -323,6 +335,8 @@ def sessions():
         yield case("debug moves.dmi part-a.toml", LONG, kind="session", in_a_row=in_a_row)
         yield case("debug lines.dmi part-a.toml --talk", TALKED, kind="session", in_a_row=in_a_row)
         yield case("debug notices.dmi notes.toml --talk", "r\nq\n", kind="session", in_a_row=in_a_row)
+        yield case("debug asked.dmi part-a.toml --whole --frame A=10,20,0,Z90 --given V=10 --apprch 2 --retrct 2 --search 5 --auto --approach", OVERS, kind="session", in_a_row=in_a_row)
+        yield case("debug waits.dmi part-a.toml --whole --harmless WAIT --table 0", OVERS, kind="session", in_a_row=in_a_row)
         for name, lines in rows.sections():
             if name in TALKS:
                 yield Case(("dap",), rows.bytes_sent(lines), kind="adapter", in_a_row=in_a_row)

@@ -90,6 +90,8 @@ const HEADINGS: &[(&[u8], Heading)] = &[
     (b"why-image", Heading::WhyImage),
     (b"story", Heading::Story),
     (b"sheet", Heading::Sheet),
+    (b"whole-story", Heading::Story),
+    (b"whole-sheet", Heading::Sheet),
     (b"shown", Heading::Plain),
     (b"notices", Heading::Notices),
     (b"survey", Heading::Plain),
@@ -277,6 +279,20 @@ const FRONTS: &[(&[u8], Front)] = &[
         b"sheet",
         Front {
             words: "vcm picture t.dmi t.toml --sheet --close",
+            rest: Rest::Lines,
+        },
+    ),
+    (
+        b"whole-story",
+        Front {
+            words: "vcm view t.dmi t.toml --whole",
+            rest: Rest::Steps,
+        },
+    ),
+    (
+        b"whole-sheet",
+        Front {
+            words: "vcm picture t.dmi t.toml --whole --sheet --close",
             rest: Rest::Lines,
         },
     ),

@@ -92,11 +92,11 @@ module _ (part : Workpiece) (valid : IsValid part) (boxes : List ProbeBox) (are 
       (flat_map (placed_ways part) r.0, sym (flat_map-append (placed_ways part) (passages part c k) r.0) ∙ ap (ways_along part) r.1 ∙ ap (λ i. ways_along part (passages part c i)) all)
 
   -- a line of a contact could not be written
-  pub broken_off : (rooms : List Room) (count : ℕ) (old new : Page) → IsDone part.blocks boxes [] rooms count → (f : Unfinished)
-      → IsBroken n part c (λ ps p. HasBroken part boxes rooms count old new ps p f) → IsNotCleared old.names part boxes c n f old.contents new.contents
-  broken_off rooms count old new start faults.NoMemory i = absurd i.broken
-  broken_off rooms count old new start (faults.Memory done) i = absurd i.broken
-  broken_off rooms count old new start (faults.Write done) i =
+  pub broken_off : (untried : List ℕ) (rooms : List Room) (count : ℕ) (old new : Page) → IsDone part.blocks boxes [] rooms count → (f : Unfinished)
+      → IsBroken n part c (λ ps p. HasBroken part boxes rooms count old new ps p f) → IsNotCleared old.names untried part boxes c n f old.contents new.contents
+  broken_off untried rooms count old new start faults.NoMemory i = absurd i.broken
+  broken_off untried rooms count old new start (faults.Memory done) i = absurd i.broken
+  broken_off untried rooms count old new start (faults.Write done) i =
       let k = suc i.done in
       let r = ways_front k (let t = taken_most part c n in let u = i.taken in omega (arith, t, u)) in
       let front : AddsFront old new (run_lines part.blocks boxes true (ways_along part (passages part c k))) =
@@ -108,8 +108,8 @@ module _ (part : Workpiece) (valid : IsValid part) (boxes : List ProbeBox) (are 
       record {
         rooms = all.0;
         are_rooms = all.1;
-        front = (adds_front_first old new (contact_lines part boxes c n) (summary boxes c (ways_of part c n) all.0 (state_after part c n).world.stop (steps_taken part c n))
-            (clearance_lines part boxes c n all.0) refl (adds_front_first old new _ more _ lines front)).front;
+        front = (adds_front_first old new (contact_lines part boxes c n) (summary untried boxes c (ways_of part c n) all.0 (state_after part c n).world.stop (steps_taken part c n))
+            (clearance_lines untried part boxes c n all.0) refl (adds_front_first old new _ more _ lines front)).front;
       }
 
   module _ (first m : Running) (ran : Ran) (is : first ≡ started part c) (run : HasRun n first m ran) where
@@ -154,7 +154,7 @@ module _ (part : Workpiece) (valid : IsValid part) (boxes : List ProbeBox) (are 
         written = (tried start).1.written;
       }
 
-      module _ (ample : ran.end ≡ ends.NoMemory → ⊥) (stop : Option StopPlace) (stop_is : stop ≡ m.state.world.stop) where
+      module _ (untried : List ℕ) (ample : ran.end ≡ ends.NoMemory → ⊥) (stop : Option StopPlace) (stop_is : stop ≡ m.state.world.stop) where
         whole : IsWhole stop
         whole = whole_by ran.end ended ample stop stop_is
 
@@ -164,23 +164,23 @@ module _ (part : Workpiece) (valid : IsValid part) (boxes : List ProbeBox) (are 
         lines : Adds old mid (contact_lines part boxes c n)
         lines = subst (λ l. Adds old mid (run_lines part.blocks boxes true l)) whole.ways (tried start).1
 
-        summary_is : summary boxes c (ways_of part c n) after stop ran.done ≡ summary boxes c (ways_of part c n) after (state_after part c n).world.stop (steps_taken part c n)
+        summary_is : summary untried boxes c (ways_of part c n) after stop ran.done ≡ summary untried boxes c (ways_of part c n) after (state_after part c n).world.stop (steps_taken part c n)
         summary_is =
-            ap (λ o. summary boxes c (ways_of part c n) after o ran.done) whole.stop_is
-            ∙ ap (summary boxes c (ways_of part c n) after (state_after part c n).world.stop) whole.steps
+            ap (λ o. summary untried boxes c (ways_of part c n) after o ran.done) whole.stop_is
+            ∙ ap (summary untried boxes c (ways_of part c n) after (state_after part c n).world.stop) whole.steps
 
         count_is : sum ≡ counted (length (ways_of part c n))
         count_is = (tried start).0.counted_is ∙ ap (λ l. counted (length l)) whole.ways
 
         abbrev end_lines : List Line
-        end_lines = plain (ways_text sum) ∷ boxes_lines boxes after ++ last_line c.tables stop ran.done ∷ []
+        end_lines = plain (ways_text untried sum) ∷ boxes_lines boxes after ++ last_line c.tables stop ran.done ∷ []
 
-        end_is : end_lines ≡ summary boxes c (ways_of part c n) after (state_after part c n).world.stop (steps_taken part c n)
-        end_is = ap (λ k. plain (ways_text k) ∷ boxes_lines boxes after ++ last_line c.tables stop ran.done ∷ []) count_is ∙ summary_is
+        end_is : end_lines ≡ summary untried boxes c (ways_of part c n) after (state_after part c n).world.stop (steps_taken part c n)
+        end_is = ap (λ k. plain (ways_text untried k) ∷ boxes_lines boxes after ++ last_line c.tables stop ran.done ∷ []) count_is ∙ summary_is
 
         -- all was written
         pub cleared : (told : Cleared) (new : Page) → told.is_met ≡ list_any is_met_room after → told.stop ≡ stop → Adds mid new end_lines
-            → IsClearance old.names part boxes c n told old.contents new.contents
+            → IsClearance old.names untried part boxes c n told old.contents new.contents
         cleared told new met same w = record {
           rooms = after;
           are_rooms = are_rooms;
@@ -190,7 +190,7 @@ module _ (part : Workpiece) (valid : IsValid part) (boxes : List ProbeBox) (are 
         }
 
         -- what comes behind the contacts could not be written
-        pub cut_off : (new : Page) → AddsFront mid new end_lines → IsCutOff old.names part boxes c n old.contents new.contents
+        pub cut_off : (new : Page) → AddsFront mid new end_lines → IsCutOff old.names untried part boxes c n old.contents new.contents
         cut_off new w = record {
           rooms = after;
           are_rooms = are_rooms;

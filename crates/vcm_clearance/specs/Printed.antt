@@ -64,9 +64,9 @@ abbrev pub run_lines : List Block3 → List ProbeBox → Bool → List PlacedWay
 run_lines blocks boxes is_first [] = []
 run_lines blocks boxes is_first (p ∷ ps) = way_lines blocks boxes is_first p ++ run_lines blocks boxes false ps
 
--- how many ways there are
-abbrev pub ways_text : ℕ → List ℕ
-ways_text count = in_a_row (codes "ways " ∷ decimal count ∷ codes "\n" ∷ [])
+-- how many ways there are, and behind that what is told of ways that weren't tried
+abbrev pub ways_text : List ℕ → ℕ → List ℕ
+ways_text untried count = in_a_row (codes "ways " ∷ decimal count ∷ untried ∷ codes "\n" ∷ [])
 
 -- that a box is met, and on how many ways
 abbrev pub met_line : List ℕ → ℕ → List ℕ

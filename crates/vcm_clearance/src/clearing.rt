@@ -95,6 +95,7 @@ fn write_rest<W: Write>(
 
 // Writes what comes behind the contacts.
 fn write_summary<W: Write>(
+    untried: &[u8],
     boxes: &[ProbeBox],
     rooms: &[Room],
     count: u64,
@@ -104,9 +105,9 @@ fn write_summary<W: Write>(
     writer: &mut W,
 ) -> Result<(), WriteFault>
     ensures { Added (page (W.contents writer.old) names.old) (page (W.contents writer.new) names.new)
-        (plain (ways_text count) ∷ boxes_lines boxes.now rooms.now ++ last_line world.now.tables world.now.state.stop done ∷ []) result }
+        (plain (ways_text untried.now count) ∷ boxes_lines boxes.now rooms.now ++ last_line world.now.tables world.now.state.stop done ∷ []) result }
 {
-    write_ways(count, writer)?;
+    write_ways(untried, count, writer)?;
     write_rest(boxes, rooms, world, done, names, writer)
 }
 
@@ -150,6 +151,7 @@ fn clear_run<P: Part, W: Write>(
     machine: &mut Machine<'_, P>,
     trier: &Trier<'_, P>,
     steps: u64,
+    untried: &[u8],
     rooms: &mut Vec<Room>,
     names: &mut BlockNames,
     writer: &mut W,
@@ -158,8 +160,8 @@ fn clear_run<P: Part, W: Write>(
     requires tie { P.part trier.now.part.now ≡ trier.now.blocks.now }
     requires beside { machine.old.part ≡ trier.now.blocks.now }
     requires rooms { rooms.old.items ≡ opening trier.now.boxes.now }
-    ensures cleared { IfOk result (λ t. IsClearance names.old trier.now.blocks.now trier.now.boxes.now loaded.now steps t (W.contents writer.old) (W.contents writer.new)) }
-    ensures fault { IfErr result (λ f. IsNotCleared names.old trier.now.blocks.now trier.now.boxes.now loaded.now steps f (W.contents writer.old) (W.contents writer.new)) }
+    ensures cleared { IfOk result (λ t. IsClearance names.old untried.now trier.now.blocks.now trier.now.boxes.now loaded.now steps t (W.contents writer.old) (W.contents writer.new)) }
+    ensures fault { IfErr result (λ f. IsNotCleared names.old untried.now trier.now.blocks.now trier.now.boxes.now loaded.now steps f (W.contents writer.old) (W.contents writer.new)) }
 {
     // It is called for what it tells of the workpiece: that it is valid.
     let _bounds = trier.blocks.bounds();
@@ -176,7 +178,7 @@ fn clear_run<P: Part, W: Write>(
     }
     let world = machine.world();
     let known = rooms.as_slice();
-    match write_summary(boxes, known, count, world, done, names, writer) {
+    match write_summary(untried, boxes, known, count, world, done, names, writer) {
         Ok(()) => Ok(Cleared {
             is_met: is_some_met(known),
             stop: world.stop(),
@@ -186,7 +188,7 @@ fn clear_run<P: Part, W: Write>(
 }
 
 /// Runs a loaded code for at most so many steps beside a workpiece, whose blocks are given too, tries boxes that are fixed to the tip on each way of the run, and writes
-/// as the steps are taken where a box enters a block; behind that how many ways there were, for each box on how many it meets a block, or how much room is left round it and
+/// as the steps are taken where a box enters a block; behind that how many ways there were, with these bytes of ways that weren't tried behind their number, for each box on how many it meets a block, or how much room is left round it and
 /// where that is narrowest; and how the run ended; below the first line that names a block the block's name, if it is among these. The tip alone decides the run. Fractions and contacts are exact; lengths are whole micrometres; ways are counted up to
 /// 18,446,744,073,709,551,615.
 ///
@@ -198,12 +200,13 @@ pub fn clearance<P: Part, W: Write>(
     blocks: &PartData,
     boxes: &Boxes,
     steps: u64,
+    untried: &[u8],
     names: &mut BlockNames,
     writer: &mut W,
 ) -> Result<Cleared, Unfinished>
     requires { P.part part.now ≡ blocks.now }
-    ensures cleared { IfOk result (λ t. IsClearance names.old (P.part part.now) boxes.now loaded.now steps t (W.contents writer.old) (W.contents writer.new)) }
-    ensures fault { IfErr result (λ f. IsNotCleared names.old (P.part part.now) boxes.now loaded.now steps f (W.contents writer.old) (W.contents writer.new)) }
+    ensures cleared { IfOk result (λ t. IsClearance names.old untried.now (P.part part.now) boxes.now loaded.now steps t (W.contents writer.old) (W.contents writer.new)) }
+    ensures fault { IfErr result (λ f. IsNotCleared names.old untried.now (P.part part.now) boxes.now loaded.now steps f (W.contents writer.old) (W.contents writer.new)) }
 {
     let Ok(mut rooms) = opening_rooms(alloc, boxes.as_slice()) else {
         return Err(Unfinished::NoMemory);
@@ -223,6 +226,7 @@ pub fn clearance<P: Part, W: Write>(
         &mut machine,
         &trier,
         steps,
+        untried,
         &mut rooms,
         names,
         writer,

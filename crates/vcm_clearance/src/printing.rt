@@ -128,14 +128,19 @@ pub(crate) fn write_contact<W: Write>(
     }
 }
 
-/// Writes how many ways there are.
+/// Writes how many ways there are, and behind that what is told of ways that weren't tried.
 ///
 /// Errors: the writer failed, or took no byte; then it has taken a front of the line, and not all of it.
-pub(crate) fn write_ways<W: Write>(count: u64, writer: &mut W) -> Result<(), WriteFault>
-    ensures { Wrote (W.contents writer.old) (W.contents writer.new) (ways_text count) result }
+pub(crate) fn write_ways<W: Write>(
+    untried: &[u8],
+    count: u64,
+    writer: &mut W,
+) -> Result<(), WriteFault>
+    ensures { Wrote (W.contents writer.old) (W.contents writer.new) (ways_text untried.now count) result }
 {
     let mut digits = Buffer::new();
-    write_pieces(writer, &[b"ways ", digits.format(count).as_bytes(), b"\n"])
+    let count = digits.format(count).as_bytes();
+    write_pieces(writer, &[b"ways ", count, untried, b"\n"])
 }
 
 // Writes that a box is met.

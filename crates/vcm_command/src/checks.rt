@@ -2,7 +2,8 @@
 
 use crate::choices::choices_of;
 use crate::telling::tell_bytes;
-use crate::whole::{Built, put_whole, status_of_unused, tell_harmless, tell_reading};
+use crate::whole::{Built, put_whole, status_of_unused};
+use crate::whole_reading::tell_reading;
 use std::alloc::{AllocError, Global};
 use std::fmt::Write as _;
 use std::rt::Files;
@@ -189,8 +190,8 @@ fn tell_whole<R: Print + Eprint + AllocGlobal>(
     }
     tell_notices(rt, checked, built.whole.notices.as_slice());
     let front = if checked.is_named { checked.name } else { "" };
-    tell_reading(rt, checked.voice, front, facts, built.names.as_slice());
-    tell_harmless(rt, checked.voice, front, request);
+    let names = built.names.as_slice();
+    tell_reading(rt, checked.voice, front, facts, names, request);
     0
 }
 

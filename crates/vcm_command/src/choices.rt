@@ -4,6 +4,7 @@ use std::alloc::Global;
 use vcm_devices::Request;
 use vcm_given::{Answer, Choices, GivenFrame, Value};
 use vcm_items::{Name, VariableName, is_name, is_variable_name};
+use vcm_lines::OwnedBytes;
 use vcm_messages::Message;
 use vcm_num::{Items, NoMemory};
 use vcm_plain::millionths_of;
@@ -18,7 +19,7 @@ const FRAME: Message<'static> = Message::Option {
 };
 
 const GIVEN: Message<'static> = Message::Option {
-    words: "--given wants V=5, V=2.5, V=.TRUE. or V=.FALSE., each variable once, with three decimals at most",
+    words: "--given wants V=5, V=2.5, V=.TRUE., V=.FALSE. or V='YES', each variable once, with three decimals at most",
 };
 
 const LENGTH: Message<'static> = Message::Option {
@@ -193,14 +194,27 @@ fn number_of(text: &str) -> Option<Value> {
     }
 }
 
-// The value that a text is.
-fn value_of(text: &str) -> Option<Value> {
-    if text.eq_ignore_ascii_case(".TRUE.") {
-        Some(Value::Truth(true))
-    } else if text.eq_ignore_ascii_case(".FALSE.") {
-        Some(Value::Truth(false))
+// What stands between apostrophes, with none in it.
+fn quoted_in(text: &str) -> Option<&[u8]> {
+    let inner = text.strip_prefix('\'')?.strip_suffix('\'')?.as_bytes();
+    if inner.contains(&b'\'') {
+        None
     } else {
-        number_of(text)
+        Some(inner)
+    }
+}
+
+// The value that a word is.
+fn value_of(alloc: Global, text: &str) -> Result<Option<Value>, NoMemory> {
+    if let Some(inner) = quoted_in(text) {
+        return Ok(Some(Value::Text(OwnedBytes::copied(alloc, inner)?)));
+    }
+    if text.eq_ignore_ascii_case(".TRUE.") {
+        Ok(Some(Value::Truth(true)))
+    } else if text.eq_ignore_ascii_case(".FALSE.") {
+        Ok(Some(Value::Truth(false)))
+    } else {
+        Ok(number_of(text))
     }
 }
 
@@ -209,7 +223,7 @@ fn read_answer(alloc: Global, word: &str, names: &[ShortName]) -> Result<Option<
     let Some((name, text)) = word.split_once('=') else {
         return Ok(None);
     };
-    let Some(value) = value_of(text) else {
+    let Some(value) = value_of(alloc, text)? else {
         return Ok(None);
     };
     let name = name.to_ascii_uppercase(alloc)?;

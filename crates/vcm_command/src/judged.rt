@@ -20,7 +20,7 @@ use vcm_report::{name_at, write_end_line};
 use vcm_spec::StopPlace;
 use vcm_summary::{Findings, Summary, summarize};
 use vcm_telling::unused_text;
-use vcm_untried::{About, Counts, count_remarks, was_all_tried};
+use vcm_untried::{count_remarks, untried_motions, was_all_tried};
 use vcm_usage::Choice;
 use vcm_views::Clearance;
 
@@ -221,6 +221,7 @@ fn cleared(
 ) -> Result<(Clearing, u8), NoMemory> {
     let view = Clearance {
         boxes,
+        untried: &[],
         block_names: &[],
     };
     let mut out = Vec::new(alloc);
@@ -231,17 +232,6 @@ fn cleared(
         }
         Err(_) => Err(NoMemory),
     }
-}
-
-// How many motions weren't tried.
-fn untried_motions(counts: &Counts) -> u64 {
-    let mut count: u64 = 0;
-    for row in &counts.told.rows {
-        if let About::NotTried(_, _) = row.about {
-            count = count.saturating_add(row.count);
-        }
-    }
-    count
 }
 
 // How many motions of a producer's text weren't tried, and whether all of it was.

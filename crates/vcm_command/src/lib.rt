@@ -15,6 +15,12 @@ mod producing;
 mod program;
 mod telling;
 mod whole;
+mod whole_debug;
+mod whole_launch;
+mod whole_pages;
+mod whole_points;
+mod whole_reading;
+mod whole_views;
 
 pub use program::{status, words_to_explain};
 pub use vcm_devices::{Request, Terminals, lines_of, matches_of};

@@ -1,6 +1,6 @@
 //! The completions for fish.
 
-use crate::writing::{files_of, put};
+use crate::writing::{files_of, put, put_quoted};
 use vcm_usage::{Choice, Files, Usage, usages};
 
 const HEAD: &str = r#"# Completions of vcm for fish: put this file into ~/.config/fish/completions.
@@ -54,10 +54,9 @@ fn put_option(text: &mut String, usage: &Usage, choice: Choice) -> Option<()> {
         " -r"
     };
     put_front(text, usage)?;
-    put(
-        text,
-        &[" -l ", spelled.name, wants, " -d '", spelled.brief, "'\n"],
-    )
+    put(text, &[" -l ", spelled.name, wants, " -d '"])?;
+    put_quoted(text, spelled.brief)?;
+    put(text, &["'\n"])
 }
 
 // Whether a word before this place may be one of the same files.
@@ -95,10 +94,10 @@ pub(crate) fn put_fish(text: &mut String) -> Option<()> {
                 "complete -c vcm -n __fish_use_subcommand -a ",
                 usage.name,
                 " -d '",
-                usage.brief,
-                "'\n",
             ],
         )?;
+        put_quoted(text, usage.brief)?;
+        put(text, &["'\n"])?;
     }
     put(text, &[MIDDLE])?;
     for usage in usages() {

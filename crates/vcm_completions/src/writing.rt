@@ -10,6 +10,19 @@ pub(crate) fn put(text: &mut String, pieces: &[&str]) -> Option<()> {
     Some(())
 }
 
+/// Appends what stands between apostrophes: one within it closes them, stands escaped, and opens them again.
+pub(crate) fn put_quoted(text: &mut String, words: &str) -> Option<()> {
+    let mut is_first = true;
+    for part in words.split('\'') {
+        if !is_first {
+            put(text, &["'\\''"])?;
+        }
+        put(text, &[part])?;
+        is_first = false;
+    }
+    Some(())
+}
+
 /// The files of the words after a command, one after another.
 pub(crate) fn files_of(usage: &Usage, place: usize) -> Option<Files> {
     match usage.words.get(place) {

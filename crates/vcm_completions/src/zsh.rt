@@ -1,6 +1,6 @@
 //! The completions for zsh.
 
-use crate::writing::put;
+use crate::writing::{put, put_quoted};
 use vcm_usage::{Behind, Choice, Files, Rest, Usage, Word, usages};
 
 const HEAD: &str = r#"#compdef vcm
@@ -57,10 +57,9 @@ fn put_option(text: &mut String, choice: Choice) -> Option<()> {
         Behind::Values => "*",
         _ => "",
     };
-    put(
-        text,
-        &[" '", many, "--", spelled.name, "[", spelled.brief, "]"],
-    )?;
+    put(text, &[" '", many, "--", spelled.name, "["])?;
+    put_quoted(text, spelled.brief)?;
+    put(text, &["]"])?;
     if !spelled.value.is_empty() {
         put(text, &[":", spelled.value, completer(spelled.files)])?;
     }
@@ -84,7 +83,9 @@ fn put_command(text: &mut String, usage: &Usage) -> Option<()> {
 pub(crate) fn put_zsh(text: &mut String) -> Option<()> {
     put(text, &[HEAD])?;
     for usage in usages() {
-        put(text, &["  '", usage.name, ":", usage.brief, "'\n"])?;
+        put(text, &["  '", usage.name, ":"])?;
+        put_quoted(text, usage.brief)?;
+        put(text, &["'\n"])?;
     }
     put(text, &[MIDDLE])?;
     for usage in usages() {

@@ -2,6 +2,7 @@ mod Counts
 mod Looks
 mod Settling
 mod Clearing
+mod Thinning
 mod Folds
 mod Watches
 mod Told

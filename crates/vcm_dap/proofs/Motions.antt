@@ -1,12 +1,15 @@
 -- Motions that were carried out.
-use Rattle.std.proofs.Common.{◌≡◌, refl, ap, subst, inl, inr}
+use Rattle.std.proofs.Common.{◌≡◌, ℕ, zero, suc, Bool, true, false, refl, sym, ap, subst, inl, inr}
 use Rattle.std.specs.Prelude.{Option, Some, None, Result, Ok, Err}
 use Rattle.vcm_console.specs.declared.command.Command.{Command}
 use Rattle.vcm_console.specs.declared.reply.Reply.{Reply}
 use Rattle.vcm_console.specs.declared.reply.Halted.{Halted}
 use Rattle.vcm_debug.specs.Debugging.{Debugging}
 use Rattle.vcm_debug.specs.Session.{Answer, Carries}
-use Rattle.vcm_dap.specs.Moving.{Comes, Stands}
+use Rattle.vcm_over.specs.Over.{is_stopped, over_from}
+use Rattle.vcm_dap.specs.declared.asking.Motion.{Motion}
+use Rattle.vcm_dap.specs.Adapting.{Wanted}
+use Rattle.vcm_dap.specs.Moving.{command_of, Comes, Stands, GoesOver, goes_by_lines, MovesSo, IsMoved}
 
 -- there was nothing to do
 pub comes_none : (d : Debugging) (o : Option Command) → None ≡ o → Comes d o d (Ok None)
@@ -29,3 +32,18 @@ stands d new None (Err h) a = absurd a
 stands d new (Some what) (Ok None) a = absurd a
 stands d new (Some what) (Ok (Some r)) a = inl (ap (λ (x : Answer). x.session) a)
 stands d new (Some what) (Err h) a = inr (h.done, a)
+
+-- a motion that is a command was carried out
+pub moved : (w : Wanted) (d new : Debugging) (m : Motion) (came : Result (Option Reply) Halted) → goes_by_lines w m ≡ false → Comes d (command_of w d m) new came
+    → IsMoved w d m new
+moved w d new m came e h = subst (λ (b : Bool). MovesSo b w d m new) (sym e) (stands d new (command_of w d m) came h)
+
+-- and one that goes by lines
+pub moved_over : (w : Wanted) (d new : Debugging) (m : Motion) → goes_by_lines w m ≡ true → GoesOver d new → IsMoved w d m new
+moved_over w d new m e h = subst (λ (b : Bool). MovesSo b w d m new) (sym e) h
+
+-- at a stop a step by lines stays
+pub at_stop : (n : ℕ) (d : Debugging) → is_stopped d ≡ true → d ≡ over_from n 1 d
+unfolding over_from
+at_stop zero d e = refl
+at_stop (suc n) d e = rw e refl

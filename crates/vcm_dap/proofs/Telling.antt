@@ -23,7 +23,7 @@ use Rattle.vcm_dap.specs.Laws.{LinesArePrinted}
 use Rattle.vcm_dap.specs.declared.asking.Motion.{Motion}
 use Rattle.vcm_dap.specs.inner.Growing.{Grown}
 use Rattle.vcm_dap.specs.Telling.{TellsText, IsResult, frames, seq_behind, lines_event, lines_events, is_continue, is_step_out, motion_answer, first_messages}
-use Rattle.vcm_dap.specs.Telling.{IsPiece, Says, SaysSome, ToldLines, IsBehind, SaysBehind, ToldMotion}
+use Rattle.vcm_dap.specs.Telling.{IsPiece, Says, SaysSome, ToldLines, IsBehind, SaysBehind, IsThen, SaysThen, ToldMotion}
 
 -- a front of what comes first is a front of all
 front_sent : (a b : Option (List ℕ)) (xs ys : List ℕ) → (k : ℕ) × (k ≤ length xs) × Appends a b (take k xs) → (k : ℕ) × (k ≤ length (xs ++ ys)) × Appends a b (take k (xs ++ ys))
@@ -223,10 +223,52 @@ behind_then d a b c (Ok u) h k = record {
 }
 behind_then d a b c (Err e) h k = tt
 
+-- the same of a producer's text
+as_then : (told : Option (List ℕ)) (d : Debugging) (ms : List (List Token)) → AllByRecursion (IsBehind d) ms → AllByRecursion (IsThen told d) ms
+as_then told d [] h = tt
+as_then told d (m ∷ ms) h = (inl h.0, as_then told d ms h.1)
+
+pub then_says : (told : Option (List ℕ)) (d : Debugging) (old new : Talking) → SaysBehind d old new → SaysThen told d old new
+then_says told d old new h = record { messages = h.messages; says = h.says; are = as_then told d h.messages h.are }
+
+pub then_behind : {A E : Type 0} (told : Option (List ℕ)) (d : Debugging) (old new : Talking) (r : Result A E) → IfOk r (λ u. SaysBehind d old new)
+    → IfOk r (λ u. SaysThen told d old new)
+then_behind told d old new (Ok u) h = then_says told d old new h
+then_behind told d old new (Err e) h = tt
+
+-- nothing was told
+pub then_none : (told : Option (List ℕ)) (d : Debugging) (t : Talking) → SaysThen told d t t
+then_none told d t = record { messages = []; says = record { counted = refl; written = Appends-nil t.written }; are = tt }
+
+-- what wasn't tried was told
+pub then_untried : {A E : Type 0} (told : Option (List ℕ)) (text : List ℕ) (d : Debugging) (old new : Talking) (r : Result A E) → told ≡ Some text
+    → Told old new (ended (output_front (next_seq old.seq) (codes "stderr") text)) r → IfOk r (λ u. SaysThen told d old new)
+then_untried told text d old new (Ok u) e h = subst (λ (o : Option (List ℕ)). SaysThen o d old new) (sym e) (record {
+  messages = ended (output_front (next_seq old.seq) (codes "stderr") text) ∷ [];
+  says = says_one old new _ u h;
+  are = (inr (next_seq old.seq, [], refl), tt);
+})
+then_untried told text d old new (Err x) e h = tt
+
+-- such messages behind such messages
+both_then : (told : Option (List ℕ)) (d : Debugging) (xs ys : List (List Token)) → AllByRecursion (IsThen told d) xs → AllByRecursion (IsThen told d) ys
+    → AllByRecursion (IsThen told d) (xs ++ ys)
+both_then told d [] ys h k = k
+both_then told d (x ∷ xs) ys h k = (h.0, both_then told d xs ys h.1 k)
+
+pub then_then : {A E : Type 0} (told : Option (List ℕ)) (d : Debugging) (a b c : Talking) (r : Result A E) → SaysThen told d a b → IfOk r (λ u. SaysThen told d b c)
+    → IfOk r (λ u. SaysThen told d a c)
+then_then told d a b c (Ok u) h k = record {
+  messages = h.messages ++ k.messages;
+  says = says_more a b c h.messages k.messages h.says k.says;
+  are = both_then told d h.messages k.messages h.are k.are;
+}
+then_then told d a b c (Err e) h k = tt
+
 -- output lines between the first messages of a motion and others
-pub told_motion : {A E B F : Type 0} (a b c d : Talking) (first : List (List Token)) (lines : List (List ℕ)) (s : Debugging) (u : A) (r : Result B F) → Says a b first
-    → ToldLines {A = A} {E = E} b c lines (Ok u) → IfOk r (λ v. SaysBehind s c d) → IfOk r (λ v. ToldMotion a d first lines s)
-told_motion a b c d first lines s u (Ok v) h t k =
+pub told_motion : {A E B F : Type 0} (a b c d : Talking) (first : List (List Token)) (lines : List (List ℕ)) (told : Option (List ℕ)) (s : Debugging) (u : A)
+    (r : Result B F) → Says a b first → ToldLines {A = A} {E = E} b c lines (Ok u) → IfOk r (λ v. SaysThen told s c d) → IfOk r (λ v. ToldMotion a d first lines told s)
+told_motion a b c d first lines told s u (Ok v) h t k =
     let mid : Says b c (lines_events b.seq t.pieces) = record { counted = t.counted; written = t.sent } in
     record {
       pieces = t.pieces;
@@ -235,7 +277,7 @@ told_motion a b c d first lines s u (Ok v) h t k =
       are = k.are;
       says = says_more a c d _ k.messages (says_more a b c first _ h (subst (λ n. Says b c (lines_events n t.pieces)) h.counted mid)) k.says;
     }
-told_motion a b c d first lines s u (Err e) h t k = tt
+told_motion a b c d first lines told s u (Err e) h t k = tt
 
 -- put together, the texts of pieces are the text of the lines
 pieces_text : (pieces : List (List (List ℕ))) → flat_map output_lines pieces ≡ output_lines (flat_map (λ p. p) pieces)

@@ -1,6 +1,7 @@
 pub mod Asking
 pub mod Adapting
 pub mod Moving
+pub mod Untrying
 pub mod Lines
 pub mod Asked
 pub mod Laws

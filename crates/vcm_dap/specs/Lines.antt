@@ -1,5 +1,5 @@
 -- Breakpoints on source lines, and watches.
-use Rattle.std.specs.Prelude.{◌≡◌, ◌⊎◌, ℕ, ◌<◌, ◌≤◌, min, nat_lt, Bool, true, false, List, [], ◌∷◌, map, fold, Option, Some, None, option_and_then}
+use Rattle.std.specs.Prelude.{◌≡◌, ◌⊎◌, ℕ, ◌<◌, ◌≤◌, min, nat_lt, ◌==◌, Bool, true, false, List, [], ◌∷◌, map, fold, Option, Some, None, option_and_then}
 use Rattle.std.specs.Prelude.{if◌then◌else◌}
 use Rattle.vcm_spec.specs.Setup.{Variable}
 use Rattle.vcm_code.specs.Code.{CodeStatement}
@@ -58,6 +58,21 @@ with_places d places = fold with_place d places
 -- the session with the breakpoints that are asked for, and with no others: each line that is asked for goes to where it settles
 abbrev pub with_breakpoints : Debugging → List (Option ℕ) → Debugging
 with_breakpoints d asked = with_places (cleared d) (map (option_and_then (settled d.code.statements)) asked)
+
+-- of the statements behind one of this line, the flag of each that stands on the line of the one before it is taken away
+abbrev pub thinned : ℕ → List CodeStatement → List Bool → List Bool
+thinned before [] bs = bs
+thinned before (s ∷ ss) [] = []
+thinned before (s ∷ ss) (b ∷ bs) = (if s.line == before then false else b) ∷ thinned s.line ss bs
+
+-- the session whose breakpoints stand at such statements alone that begin a line
+abbrev pub at_heads : Debugging → Debugging
+at_heads d = record d { breakpoints = thinned 0 d.code.statements d.breakpoints }
+
+-- the same where lines are put as several statements; of a program as it is written the session stays
+abbrev pub if_by_lines : Bool → Debugging → Debugging
+if_by_lines true d = at_heads d
+if_by_lines false d = d
 
 -- a variable, as a command names it
 abbrev pub named : Variable → VariableRef

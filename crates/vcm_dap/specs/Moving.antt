@@ -1,5 +1,5 @@
 -- Motions: which command of the debugger each is, and where the session stands afterwards.
-use Rattle.std.specs.Prelude.{◌≡◌, ◌⊎◌, ℕ, ◌==◌, ◌||◌, Bool, false, Option, Some, None, Result, Ok, Err, slice_index_or, if◌then◌else◌}
+use Rattle.std.specs.Prelude.{◌≡◌, ◌⊎◌, ℕ, ◌==◌, ◌||◌, Bool, true, false, Option, Some, None, is_some, Result, Ok, Err, slice_index_or, if◌then◌else◌}
 use Rattle.vcm_spec.specs.declared.stop.StopPlace.{StopPlace}
 use Rattle.vcm_console.specs.declared.command.Command.{Command}
 use Rattle.vcm_console.specs.declared.command.Command.TheVariants as c
@@ -7,6 +7,7 @@ use Rattle.vcm_console.specs.declared.reply.Reply.{Reply}
 use Rattle.vcm_console.specs.declared.reply.Halted.{Halted}
 use Rattle.vcm_debug.specs.Debugging.{Debugging, now}
 use Rattle.vcm_debug.specs.Session.{answer, Halts}
+use Rattle.vcm_over.specs.Over.{over_from, IsOnWay}
 use Rattle.vcm_dap.specs.declared.asking.Motion.{Motion}
 use Rattle.vcm_dap.specs.declared.asking.Motion.TheVariants.{Begin, Continue, Step, StepOut, StepBack, Reverse, Pause}
 use Rattle.vcm_dap.specs.Adapting.{Wanted}
@@ -50,6 +51,20 @@ abbrev pub Stands : Debugging → Option Command → Debugging → Type 0
 Stands old None new = new ≡ old
 Stands old (Some what) new = (new ≡ (answer old what).session) ⊎ ((done : ℕ) × Halts old what new done)
 
+-- a step by lines: to where the next statement stands on another source line, or to a stop; or where memory was refused on the way there
+abbrev pub GoesOver : Debugging → Debugging → Type 0
+GoesOver old new = (new ≡ over_from 1000000 1 old) ⊎ IsOnWay 1 old new
+
+-- whether a motion goes by source lines: a step does, of a producer's text
+abbrev pub goes_by_lines : Wanted → Motion → Bool
+goes_by_lines w Step = is_some w.told
+goes_by_lines w _ = false
+
+-- where the session stands behind a motion that goes by source lines, or not
+abbrev pub MovesSo : Bool → Wanted → Debugging → Motion → Debugging → Type 0
+MovesSo true w old m new = GoesOver old new
+MovesSo false w old m new = Stands old (command_of w old m) new
+
 -- where the session stands behind a motion
 abbrev pub IsMoved : Wanted → Debugging → Motion → Debugging → Type 0
-IsMoved w old m new = Stands old (command_of w old m) new
+IsMoved w old m new = MovesSo (goes_by_lines w m) w old m new

@@ -1,5 +1,5 @@
 -- What a request does to the adapter.
-use Rattle.std.specs.Prelude.{◌≡◌, ℕ, max, Bool, true, false, List, length, codes, Option, Some, None, option_and_then}
+use Rattle.std.specs.Prelude.{◌≡◌, ℕ, max, Bool, true, false, List, length, codes, Option, Some, None, is_some, option_and_then}
 use Rattle.std.specs.Str.{bytes_eq}
 use Rattle.json.specs.Json.{Json, Items}
 use Rattle.json.specs.Find.{get, as_str}
@@ -12,7 +12,7 @@ use Rattle.vcm_dap.specs.declared.adapter.Served.TheVariants.{Done, Refused, Ove
 use Rattle.vcm_dap.specs.Adapting.{Adapting}
 use Rattle.vcm_dap.specs.Moving.{IsMoved}
 use Rattle.vcm_dap.specs.Asked.{AskLines, items_in, listed_breakpoints, asked_variables}
-use Rattle.vcm_dap.specs.Lines.{with_breakpoints, with_watches}
+use Rattle.vcm_dap.specs.Lines.{with_breakpoints, if_by_lines, with_watches}
 
 -- the path of the file that a request speaks of
 abbrev pub path_of : Json → Option (List ℕ)
@@ -24,10 +24,12 @@ same_path (Some a) (Some b) = bytes_eq a b
 same_path (Some a) None = false
 same_path None b = false
 
--- breakpoints were set on the lines that these items ask for, if the request speaks of the text that is shown; else nothing has changed
-abbrev pub IsBroken : Bool → Bool → Items → Debugging → Debugging → Type 0
-IsBroken true is_from_0 js old new = (asked : List (Option ℕ)) × AskLines is_from_0 js asked × (new ≡ with_breakpoints old asked)
-IsBroken false is_from_0 js old new = new ≡ old
+-- breakpoints were set on the lines that these items ask for, if the request speaks of the text that is shown; else nothing has changed. In a producer's text
+-- they stand where a line begins
+abbrev pub IsBroken : Bool → Bool → Bool → Items → Debugging → Debugging → Type 0
+IsBroken true by_lines is_from_0 js old new =
+    (asked : List (Option ℕ)) × AskLines is_from_0 js asked × (new ≡ if_by_lines by_lines (with_breakpoints old asked))
+IsBroken false by_lines is_from_0 js old new = new ≡ old
 
 -- the variables that these items ask for are watched, and no others
 abbrev pub IsWatching : Items → Debugging → Debugging → Type 0
@@ -37,7 +39,7 @@ IsWatching js old new = new ≡ with_watches old (asked_variables old js)
 abbrev pub IsDone : Bool → Adapting → Json → Ask → Debugging → Type 0
 IsDone is_from_0 old message (a.Move m) new = IsMoved old.wanted old.session m new
 IsDone is_from_0 old message a.Breakpoints new =
-    IsBroken (same_path (path_of message) old.wanted.source) is_from_0 (items_in (listed_breakpoints message)) old.session new
+    IsBroken (same_path (path_of message) old.wanted.source) (is_some old.wanted.told) is_from_0 (items_in (listed_breakpoints message)) old.session new
 IsDone is_from_0 old message a.DataBreakpoints new = IsWatching (items_in (argument message (codes "breakpoints"))) old.session new
 IsDone is_from_0 old message (a.Show look) new = new ≡ old.session
 

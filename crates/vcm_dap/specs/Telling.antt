@@ -1,5 +1,5 @@
 -- What is told, message behind message: output lines among others.
-use Rattle.std.specs.Prelude.{◌≡◌, ◌⊎◌, ℕ, ◌<◌, ◌≤◌, Bool, true, false, List, [], ◌∷◌, ◌++◌, length, drop, flat_map, codes, decimal, Some, Result, OnOk}
+use Rattle.std.specs.Prelude.{◌≡◌, ◌⊎◌, ℕ, ◌<◌, ◌≤◌, Bool, true, false, List, [], ◌∷◌, ◌++◌, length, drop, flat_map, codes, Option, Some, None, Result, OnOk}
 use Rattle.std.specs.List.{AllByRecursion}
 use Rattle.std.specs.Io.KnownBytes.{Appends}
 use Rattle.json.specs.Token.{Token}
@@ -113,17 +113,32 @@ pub record SaysBehind (d : Debugging) (old new : Talking) : Type 0 where
   pub says : Says old new messages
   pub are : AllByRecursion (IsBehind d) messages
 
+-- an event that tells what of a producer's text wasn't tried, where that is told at its end
+abbrev pub IsUntried : Option (List ℕ) → List Token → Type 0
+IsUntried None m = ⊥
+IsUntried (Some text) m = IsOutput (codes "stderr") text m
+
+-- what may stand behind the output lines of a motion, of a producer's text too
+abbrev pub IsThen : Option (List ℕ) → Debugging → List Token → Type 0
+IsThen told d m = IsBehind d m ⊎ IsUntried told m
+
+-- such messages were written behind what was there, whole ones
+pub record SaysThen (told : Option (List ℕ)) (d : Debugging) (old new : Talking) : Type 0 where
+  pub messages : List (List Token)
+  pub says : Says old new messages
+  pub are : AllByRecursion (IsThen told d) messages
+
 -- what a motion that was done has written: these first messages, the events that tell these output lines, and behind them what tells where the session
 -- stands
-pub record ToldMotion (old new : Talking) (first : List (List Token)) (lines : List (List ℕ)) (d : Debugging) : Type 0 where
+pub record ToldMotion (old new : Talking) (first : List (List Token)) (lines : List (List ℕ)) (told : Option (List ℕ)) (d : Debugging) : Type 0 where
   pub pieces : List (List (List ℕ))
   pub cut : AreCut pieces lines
   pub behind : List (List Token)
-  pub are : AllByRecursion (IsBehind d) behind
+  pub are : AllByRecursion (IsThen told d) behind
   pub says : Says old new ((first ++ lines_events (seq_behind old.seq first) pieces) ++ behind)
 
--- what a request that was served has written, where so many lines were told before, and the session stands so: a motion the lines behind those, and each
--- whole messages
-abbrev pub Tells : Talking → Talking → ℕ → List ℕ → Ask → ℕ → Debugging → Type 0
-Tells old new request command (a.Move m) told d = ToldMotion old new (first_messages old.seq request command m) (drop told (now d).world.lines) d
-Tells old new request command _ told d = SaysSome old new
+-- what a request that was served has written, where so many lines were told before, this is told at the end, and the session stands so: a motion the lines
+-- behind those, and each whole messages
+abbrev pub Tells : Talking → Talking → ℕ → List ℕ → Ask → ℕ → Option (List ℕ) → Debugging → Type 0
+Tells old new request command (a.Move m) told untried d = ToldMotion old new (first_messages old.seq request command m) (drop told (now d).world.lines) untried d
+Tells old new request command _ told untried d = SaysSome old new

@@ -1,6 +1,6 @@
 //! The adapter, once a program is launched.
 
-ghost use Rattle.std.specs.Prelude.{◌≡◌, ◌∷◌, [], if◌then◌else◌, IfOk};
+ghost use Rattle.std.specs.Prelude.{◌≡◌, ◌∷◌, [], if◌then◌else◌, option_map, IfOk};
 ghost use Rattle.vcm_dap.specs.declared.adapter.Served.TheVariants.{Done, Refused};
 ghost use Rattle.vcm_dap.specs.Talking.{next_seq, Told};
 ghost use Rattle.vcm_dap.specs.Telling.{is_continue, is_step_out, motion_answer, first_messages, Says, SaysSome};
@@ -67,7 +67,7 @@ impl<'a, 's, P: Part> Adapter<'a, 's, P> {
     ghost use Rattle.vcm_dap.specs.Moving.{IsMoved};
     ghost use Rattle.vcm_dap.specs.Served.{IsServed};
     ghost use Rattle.vcm_dap.specs.Talking.{next_seq, event_front, ended, Told};
-    ghost use Rattle.vcm_dap.specs.Telling.{first_messages, SaysBehind, SaysSome, TellsText, ToldLines, ToldMotion, Tells};
+    ghost use Rattle.vcm_dap.specs.Telling.{first_messages, SaysThen, SaysSome, TellsText, ToldLines, ToldMotion, Tells};
 
     /// The adapter of a session of which nothing was told yet.
     pub fn new(session: Session<'a, P>, settings: Settings<'s>) -> Adapter<'a, 's, P>
@@ -113,7 +113,7 @@ impl<'a, 's, P: Part> Adapter<'a, 's, P> {
     ) -> Result<Served, DapFault>
         requires { self.old.session.count + 1000000 < 2 ^ 64 }
         ensures served { IfOk result (λ s. IsServed talk.old.is_from_0 self.old (value_view request.now.message.now) (ask_of request.now.command.now) s self.new) }
-        ensures told { IfOk result (λ s. Tells talk.old talk.new request.now.seq request.now.command.now (ask_of request.now.command.now) self.old.told self.new.session) }
+        ensures told { IfOk result (λ s. Tells talk.old talk.new request.now.seq request.now.command.now (ask_of request.now.command.now) self.old.told self.old.wanted.told self.new.session) }
         ensures few { self.new.session.count ≤ self.old.session.count + 1000000 }
     {
         match ask_of(request.command) {
@@ -173,7 +173,7 @@ impl<'a, 's, P: Part> Adapter<'a, 's, P> {
         requires { self.old.session.count + 1000000 < 2 ^ 64 }
         ensures moved { IfOk result (λ u. IsMoved self.old.wanted self.old.session motion self.new.session) }
         ensures counted { IfOk result (λ u. self.new.told ≡ max self.old.told (length (now self.new.session).world.lines)) }
-        ensures told { IfOk result (λ u. ToldMotion talk.old talk.new (first_messages talk.old.seq request.now.seq request.now.command.now motion) (drop self.old.told (now self.new.session).world.lines) self.new.session) }
+        ensures told { IfOk result (λ u. ToldMotion talk.old talk.new (first_messages talk.old.seq request.now.seq request.now.command.now motion) (drop self.old.told (now self.new.session).world.lines) self.old.wanted.told self.new.session) }
         ensures wanted { self.new.wanted ≡ self.old.wanted }
         ensures few { self.new.session.count ≤ self.old.session.count + 1000000 }
     {
@@ -184,14 +184,40 @@ impl<'a, 's, P: Part> Adapter<'a, 's, P> {
         self.tell_then(talk, what)
     }
 
+    // Tells what of a producer's text wasn't tried, if that is told.
+    fn tell_untried<W: Write>(&self, talk: &mut Talk<W>) -> Result<(), DapFault>
+        ensures { IfOk result (λ u. SaysThen self.now.wanted.told self.now.session talk.old talk.new) }
+    {
+        match told_at_end(&self.settings) {
+            Some(text) if !text.is_empty() => talk.tell_text("stderr", text),
+            _ => Ok(()),
+        }
+    }
+
+    // Tells that the session ends, and what wasn't tried in it.
+    fn tell_end<W: Write>(&self, talk: &mut Talk<W>) -> Result<(), DapFault>
+        ensures { IfOk result (λ u. SaysThen self.now.wanted.told self.now.session talk.old talk.new) }
+    {
+        self.tell_untried(talk)?;
+        finish(talk, &self.session, &self.settings)
+    }
+
+    // Tells the result of a run to the end, and that the session ends.
+    fn tell_all<W: Write>(&self, talk: &mut Talk<W>) -> Result<(), DapFault>
+        ensures { IfOk result (λ u. SaysThen self.now.wanted.told self.now.session talk.old talk.new) }
+    {
+        tell_result(talk, &self.session, &self.settings)?;
+        self.tell_end(talk)
+    }
+
     // Tells what comes behind a motion.
     fn tell_then<W: Write>(&self, talk: &mut Talk<W>, what: Then) -> Result<(), DapFault>
-        ensures { IfOk result (λ u. SaysBehind self.now.session talk.old talk.new) }
+        ensures { IfOk result (λ u. SaysThen self.now.wanted.told self.now.session talk.old talk.new) }
     {
         match what {
             Then::Stands(why) => stand(talk, &self.session, &self.settings, why),
-            Then::Result => tell_result(talk, &self.session, &self.settings),
-            Then::Ends => finish(talk, &self.session),
+            Then::Result => self.tell_all(talk),
+            Then::Ends => self.tell_end(talk),
         }
     }
 
@@ -247,6 +273,16 @@ fn answer_alone<W: Write>(
             talk.refuse_unknown(request)?;
             Ok(Served::Refused)
         }
+    }
+}
+
+// What of a producer's text is told at its end.
+fn told_at_end<'s>(settings: &Settings<'s>) -> Option<&'s [u8]>
+    ensures { option_map (λ t. t.now) result ≡ settings.now.told }
+{
+    match &settings.whole {
+        Some(whole) => Some(whole.told),
+        None => None,
     }
 }
 

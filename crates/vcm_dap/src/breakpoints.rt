@@ -1,6 +1,6 @@
 //! The request for breakpoints on lines.
 
-ghost use Rattle.std.specs.Prelude.{◌≡◌, ◌<◌, ◌+◌, ◌^◌, true, map, option_map, option_and_then, IfOk};
+ghost use Rattle.std.specs.Prelude.{◌≡◌, ◌<◌, ◌+◌, ◌^◌, true, map, is_some, option_map, option_and_then, IfOk};
 ghost use Rattle.json.specs.Value.{value_view, items_view};
 ghost use Rattle.vcm_dap.specs.Asked.{has_text, has_condition, IsNumber, line_value, AsksLine, AskLines, items_in, listed_breakpoints};
 ghost use Rattle.vcm_dap.specs.Lines.{settled};
@@ -95,6 +95,13 @@ fn is_of_source(settings: &Settings<'_>, request: &Request<'_, '_>) -> bool
     ensures { result ≡ same_path (path_of (value_view request.now.message.now)) settings.now.source }
 {
     same_path(path_of(request), settings.source)
+}
+
+// Whether lines are put as several statements.
+fn is_by_lines(settings: &Settings<'_>) -> bool
+    ensures { result ≡ is_some settings.now.told }
+{
+    settings.whole.is_some()
 }
 
 // The lines that are asked for.
@@ -226,13 +233,14 @@ fn replace<P: Part, W: Write>(
     items: &[Value<'_>],
 ) -> Result<(), DapFault>
     requires { session.old.count + 1000000 < 2 ^ 64 }
-    ensures broken { IfOk result (λ u. IsBroken true talk.old.is_from_0 (items_view items.now) session.old session.new) }
+    ensures broken { IfOk result (λ u. IsBroken true (is_some settings.now.told) talk.old.is_from_0 (items_view items.now) session.old session.new) }
     ensures same { session.new.count ≡ session.old.count }
     ensures says { IfOk result (λ u. SaysSome talk.old talk.new) }
 {
     let asked = asked_lines(talk, items)?;
     let places = places_of(talk.alloc(), session.loaded(), &asked)?;
-    break_on(talk.alloc(), session, &places);
+    let by_lines = is_by_lines(settings);
+    break_on(talk.alloc(), session, &places, by_lines);
     answer_places(talk, settings, request, items, &places)
 }
 
@@ -245,7 +253,7 @@ fn set_items<P: Part, W: Write>(
     items: &[Value<'_>],
 ) -> Result<(), DapFault>
     requires { session.old.count + 1000000 < 2 ^ 64 }
-    ensures broken { IfOk result (λ u. IsBroken (same_path (path_of (value_view request.now.message.now)) settings.now.source) talk.old.is_from_0 (items_view items.now) session.old session.new) }
+    ensures broken { IfOk result (λ u. IsBroken (same_path (path_of (value_view request.now.message.now)) settings.now.source) (is_some settings.now.told) talk.old.is_from_0 (items_view items.now) session.old session.new) }
     ensures same { session.new.count ≡ session.old.count }
     ensures says { IfOk result (λ u. SaysSome talk.old talk.new) }
 {
@@ -264,7 +272,7 @@ pub(crate) fn set_breakpoints<P: Part, W: Write>(
     request: &Request<'_, '_>,
 ) -> Result<(), DapFault>
     requires { session.old.count + 1000000 < 2 ^ 64 }
-    ensures broken { IfOk result (λ u. IsBroken (same_path (path_of (value_view request.now.message.now)) settings.now.source) talk.old.is_from_0 (items_in (listed_breakpoints (value_view request.now.message.now))) session.old session.new) }
+    ensures broken { IfOk result (λ u. IsBroken (same_path (path_of (value_view request.now.message.now)) settings.now.source) (is_some settings.now.told) talk.old.is_from_0 (items_in (listed_breakpoints (value_view request.now.message.now))) session.old session.new) }
     ensures same { session.new.count ≡ session.old.count }
     ensures says { IfOk result (λ u. SaysSome talk.old talk.new) }
 {

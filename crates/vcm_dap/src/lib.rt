@@ -23,5 +23,5 @@ mod watching;
 pub use adapter::{Adapter, Served};
 pub use asking::{Ask, Look, Motion, ask_of};
 pub use fault::DapFault;
-pub use settings::Settings;
+pub use settings::{Settings, Untried, WholeText};
 pub use talk::Talk;

@@ -4,7 +4,7 @@ ghost use Rattle.std.specs.Prelude.{◌≡◌, ◌<◌, ◌≤◌, ◌+◌, ◌^
 ghost use Rattle.vcm_console.specs.Parsing.{steps_of};
 ghost use Rattle.vcm_console.specs.declared.command.Command.TheVariants as c;
 ghost use Rattle.vcm_debug.specs.Debugging.{now};
-ghost use Rattle.vcm_dap.specs.Moving.{unless_stopped, beginning, command_of, Comes};
+ghost use Rattle.vcm_dap.specs.Moving.{unless_stopped, beginning, command_of, Comes, GoesOver, goes_by_lines, IsMoved};
 
 use crate::asking::Motion;
 use crate::settings::Settings;
@@ -12,6 +12,7 @@ use std::alloc::Global;
 use vcm_console::{Command, Count, Halted, Reply};
 use vcm_debug::Session;
 use vcm_motion::Part;
+use vcm_over::over;
 
 // The same count.
 fn same(count: &Count) -> Option<Count>
@@ -110,10 +111,8 @@ fn command_for<P: Part>(
     }
 }
 
-/// Carries a motion out: what the debugger answered, or nothing where the session stays as it is.
-///
-/// Errors: want of memory; then the session stands at the steps done.
-pub(crate) fn go<P: Part>(
+// Carries the command out that a motion is: what the debugger answered, or nothing where the session stays as it is.
+fn carry_out<P: Part>(
     alloc: Global,
     session: &mut Session<'_, P>,
     settings: &Settings<'_>,
@@ -129,5 +128,50 @@ pub(crate) fn go<P: Part>(
             Ok(reply) => Ok(Some(reply)),
             Err(halted) => Err(halted),
         },
+    }
+}
+
+// Steps to another source line, but at a stop.
+fn go_over<P: Part>(alloc: Global, session: &mut Session<'_, P>) -> Result<Option<Reply>, Halted>
+    requires { session.old.count + 1000000 < 2 ^ 64 }
+    ensures goes { GoesOver session.old session.new }
+    ensures few { session.new.count ≤ session.old.count + 1000000 }
+{
+    if session.world().stop().is_some() {
+        return Ok(None);
+    }
+    match over(alloc, session, 1) {
+        Ok(()) => Ok(Some(Reply::Stands(session.standing()))),
+        Err(halted) => Err(halted),
+    }
+}
+
+// Whether a motion goes by source lines.
+fn goes_by_lines(settings: &Settings<'_>, motion: Motion) -> bool
+    ensures { result ≡ goes_by_lines settings.now motion }
+{
+    match motion {
+        Motion::Step => settings.whole.is_some(),
+        _ => false,
+    }
+}
+
+/// Carries a motion out: what the debugger answered, or nothing where the session stays as it is.
+///
+/// Errors: want of memory; then the session stands at the steps done.
+pub(crate) fn go<P: Part>(
+    alloc: Global,
+    session: &mut Session<'_, P>,
+    settings: &Settings<'_>,
+    motion: Motion,
+) -> Result<Option<Reply>, Halted>
+    requires { session.old.count + 1000000 < 2 ^ 64 }
+    ensures moved { IsMoved settings.now session.old motion session.new }
+    ensures few { session.new.count ≤ session.old.count + 1000000 }
+{
+    if goes_by_lines(settings, motion) {
+        go_over(alloc, session)
+    } else {
+        carry_out(alloc, session, settings, motion)
     }
 }

@@ -10,6 +10,7 @@ use vcm_debug::Session;
 use vcm_frame::Frame;
 use vcm_motion::Part;
 use vcm_num::{Axis, Kind, Point, thousandths_text};
+use vcm_over::{FIRST_IMPLICIT, known_here};
 use vcm_report::write_feature_words;
 use vcm_spec::Source;
 use vcm_state::World;
@@ -79,7 +80,15 @@ fn put_variable(
     put_named(message, &name, &text, kind_text(variable.kind()))
 }
 
-/// A row for each variable.
+// Whether a variable carries what is known.
+fn is_implicit(world: &World, index: u16) -> bool {
+    match world.tables().variables().get(usize::from(index)) {
+        Some(variable) => variable.expansion() >= FIRST_IMPLICIT,
+        None => false,
+    }
+}
+
+/// A row for each variable, but those that carry what is known.
 pub(crate) fn put_variables(
     alloc: Global,
     world: &World,
@@ -87,7 +96,9 @@ pub(crate) fn put_variables(
 ) -> Result<(), DapFault> {
     for i in 0..world.tables().variables().len() {
         if let Ok(index) = u16::try_from(i) {
-            put_variable(alloc, world, index, message)?;
+            if !is_implicit(world, index) {
+                put_variable(alloc, world, index, message)?;
+            }
         }
     }
     Ok(())
@@ -185,6 +196,20 @@ fn put_stop<P: Part>(
     }
 }
 
+// The row of what is known, of a producer's text.
+fn put_known<P: Part>(
+    alloc: Global,
+    session: &Session<'_, P>,
+    settings: &Settings<'_>,
+    message: &mut Message,
+) -> Result<(), DapFault> {
+    if settings.whole.is_none() {
+        return Ok(());
+    }
+    let text = known_here(alloc, session)?;
+    put_row(message, "known", &text)
+}
+
 /// The rows of the machine.
 pub(crate) fn put_machine<P: Part>(
     alloc: Global,
@@ -201,5 +226,6 @@ pub(crate) fn put_machine<P: Part>(
     put_frame(alloc, world.frame(), message)?;
     put_settings(world, message)?;
     put_number(message, "output lines", world.lines().len() as u64)?;
-    put_stop(alloc, session, message)
+    put_stop(alloc, session, message)?;
+    put_known(alloc, session, settings, message)
 }

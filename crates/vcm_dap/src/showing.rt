@@ -3,8 +3,10 @@
 ghost use Rattle.std.specs.Prelude.{◌≡◌, option_map, codes, IfOk};
 ghost use Rattle.vcm_report.specs.Printed.{point_text, position_line, steps_line, no_stop_line, stopped_line};
 ghost use Rattle.vcm_debug.specs.Debugging.{now};
+ghost use Rattle.vcm_dap.specs.Untrying.{if_on, untried_at};
 
 use crate::fault::DapFault;
+use crate::settings::{Settings, Untried};
 use std::alloc::Global;
 use vcm_debug::Session;
 use vcm_motion::Part;
@@ -66,4 +68,41 @@ pub(crate) fn stop_line<P: Part>(
 /// What stands behind `stop ` in the line of a stop.
 pub(crate) fn behind_stop(text: &[u8]) -> &[u8] {
     text.split_at(text.len().min(5)).1
+}
+
+// This, if it is of this line.
+fn if_on(line: u32, untried: Untried) -> Option<Untried>
+    ensures { result ≡ if_on line untried }
+{
+    if untried.line == line {
+        Some(untried)
+    } else {
+        None
+    }
+}
+
+// The first of these behind so many steps, if it is of this line.
+fn untried_at(steps: u64, line: u32, untried: &[Untried]) -> Option<Untried>
+    ensures { result ≡ untried_at steps line untried.now }
+{
+    for each in untried {
+        if each.step > steps {
+            return if_on(line, *each);
+        }
+    }
+    None
+}
+
+/// The words for what isn't tried of the line of the next statement, if there is something: the first that a run comes by behind where the session stands.
+pub(crate) fn untried_here<'s, P: Part>(
+    session: &Session<'_, P>,
+    settings: &Settings<'s>,
+) -> Option<&'s [u8]> {
+    let standing = session.standing();
+    let Some(whole) = &settings.whole else {
+        return None;
+    };
+    let untried = untried_at(standing.steps, standing.line, whole.untried)?;
+    let words = whole.words.get(untried.words)?;
+    Some(words.as_slice())
 }

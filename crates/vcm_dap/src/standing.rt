@@ -10,7 +10,9 @@ use crate::fault::DapFault;
 use crate::looking::without_feed;
 use crate::output::tell_placed;
 use crate::settings::Settings;
-use crate::showing::{behind_stop, no_stop_text, position_text, steps_text, stop_line};
+use crate::showing::{
+    behind_stop, no_stop_text, position_text, steps_text, stop_line, untried_here,
+};
 use crate::talk::Talk;
 use std::alloc::Global;
 use std::io::Write;
@@ -194,11 +196,15 @@ fn put_pause(message: &mut Message, description: &str) -> Result<(), DapFault>
     Ok(())
 }
 
-// Puts a reason that is one word.
-fn put_reason(message: &mut Message, reason: &str) -> Result<(), DapFault>
+// Puts a reason that is one word, and what isn't tried where it stands, if there is something.
+fn put_reason(message: &mut Message, reason: &str, untried: Option<&[u8]>) -> Result<(), DapFault>
     ensures { IfOk result (λ u. Grown message.old message.new) }
 {
     message.text("reason", reason)?;
+    match untried {
+        Some(words) => message.bytes("description", words)?,
+        None => {}
+    }
     Ok(())
 }
 
@@ -206,17 +212,19 @@ fn put_reason(message: &mut Message, reason: &str) -> Result<(), DapFault>
 fn put_why<P: Part>(
     alloc: Global,
     session: &Session<'_, P>,
+    settings: &Settings<'_>,
     why: Why,
     message: &mut Message,
 ) -> Result<(), DapFault>
     ensures { IfOk result (λ u. Grown message.old message.new) }
 {
+    let untried = untried_here(session, settings);
     match why {
-        Why::Entry => put_reason(message, "entry"),
-        Why::Step => put_reason(message, "step"),
-        Why::Still => put_reason(message, "pause"),
+        Why::Entry => put_reason(message, "entry", untried),
+        Why::Step => put_reason(message, "step", untried),
+        Why::Still => put_reason(message, "pause", untried),
         Why::NoMemory => put_pause(message, "no memory"),
-        Why::Ran(Reason::Break) => put_reason(message, "breakpoint"),
+        Why::Ran(Reason::Break) => put_reason(message, "breakpoint", untried),
         Why::Ran(Reason::Watch(v)) => put_change(alloc, session, v, message),
         Why::Ran(_) => put_pause(message, "as many steps were taken as may be"),
     }
@@ -226,12 +234,13 @@ fn put_why<P: Part>(
 fn put_standing<P: Part>(
     alloc: Global,
     session: &Session<'_, P>,
+    settings: &Settings<'_>,
     why: Why,
     message: &mut Message,
 ) -> Result<(), DapFault>
     ensures { IfOk result (λ u. Grown message.old message.new) }
 {
-    put_why(alloc, session, why, message)?;
+    put_why(alloc, session, settings, why, message)?;
     put_still(message)
 }
 
@@ -239,12 +248,13 @@ fn put_standing<P: Part>(
 fn stand_still<P: Part, W: Write>(
     talk: &mut Talk<W>,
     session: &Session<'_, P>,
+    settings: &Settings<'_>,
     why: Why,
 ) -> Result<(), DapFault>
     ensures { (d : Debugging) → IfOk result (λ u. SaysBehind d talk.old talk.new) }
 {
     let mut message = talk.event("stopped")?;
-    let put = put_standing(talk.alloc(), session, why, &mut message);
+    let put = put_standing(talk.alloc(), session, settings, why, &mut message);
     talk.send_put(message, put)
 }
 
@@ -258,21 +268,29 @@ pub(crate) fn stand<P: Part, W: Write>(
     ensures { IfOk result (λ u. SaysBehind session.now talk.old talk.new) }
 {
     if is_short(why) {
-        return stand_still(talk, session, why);
+        return stand_still(talk, session, settings, why);
     }
     if let Some(place) = session.world().stop() {
         if let Some(line) = stop_line(talk.alloc(), session)? {
             return stand_stopped(talk, settings, why, place, &line);
         }
     }
-    stand_still(talk, session, why)
+    stand_still(talk, session, settings, why)
 }
 
-// The exit status of a run: 0 at its end, 3 at another stop, 4 at none.
-fn status_of(stop: Option<StopPlace>) -> u8 {
+// The exit status of a run that comes to its end.
+fn status_at_end(settings: &Settings<'_>) -> u8 {
+    match &settings.whole {
+        Some(whole) => whole.status,
+        None => 0,
+    }
+}
+
+// The exit status of a run: 0 at its end, or that of a producer's text; 3 at another stop, 4 at none.
+fn status_of(settings: &Settings<'_>, stop: Option<StopPlace>) -> u8 {
     match stop {
         None => 4,
-        Some(place) if place.stop == Stop::Ended => 0,
+        Some(place) if place.stop == Stop::Ended => status_at_end(settings),
         Some(_) => 3,
     }
 }
@@ -298,10 +316,11 @@ fn tell_exit<W: Write>(talk: &mut Talk<W>, status: u8) -> Result<(), DapFault>
 pub(crate) fn finish<P: Part, W: Write>(
     talk: &mut Talk<W>,
     session: &Session<'_, P>,
+    settings: &Settings<'_>,
 ) -> Result<(), DapFault>
     ensures { IfOk result (λ u. SaysBehind session.now talk.old talk.new) }
 {
-    tell_exit(talk, status_of(session.world().stop()))?;
+    tell_exit(talk, status_of(settings, session.world().stop()))?;
     talk.tell("terminated")
 }
 
@@ -354,7 +373,7 @@ fn tell_steps<P: Part, W: Write>(
     talk.tell_text("stdout", &text)
 }
 
-/// Tells the result of a run to the end, as `vcm run` prints it, and that the session ends.
+/// Tells the result of a run to the end, as `vcm run` prints it.
 pub(crate) fn tell_result<P: Part, W: Write>(
     talk: &mut Talk<W>,
     session: &Session<'_, P>,
@@ -364,6 +383,5 @@ pub(crate) fn tell_result<P: Part, W: Write>(
 {
     tell_end(talk, session, settings)?;
     tell_position(talk, session)?;
-    tell_steps(talk, session)?;
-    finish(talk, session)
+    tell_steps(talk, session)
 }

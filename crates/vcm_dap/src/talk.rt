@@ -322,7 +322,7 @@ impl<W: Write> Talk<W> {
     }
 
     /// Tells a text.
-    pub(crate) fn tell_text(&mut self, category: &str, text: &[u8]) -> Result<(), DapFault>
+    pub fn tell_text(&mut self, category: &str, text: &[u8]) -> Result<(), DapFault>
         ensures told { Told self.old self.new (ended (output_front (next_seq self.old.seq) category.now text.now)) result }
         ensures says { IfOk result (λ u. SaysSome self.old self.new) }
     {

@@ -1,13 +1,13 @@
 //! A session of the debugger on the standard devices.
 
-use crate::hand::debug_typed;
+use crate::hand::{debug_put, debug_typed};
 use crate::parts::part_given;
 use crate::printing::{output, written};
 use crate::request::Request;
 use crate::talking::{Voice, fails_in, fails_twice, tell_notices};
 use std::io::Read;
 use std::rt::Files;
-use vcm_job::debug;
+use vcm_job::{Given, debug};
 use vcm_messages::{Message, message_of};
 use vcm_part::PartData;
 use vcm_program::Noticed;
@@ -35,6 +35,30 @@ fn debug_beside<'a, R: Files + Input + Print + Eprint + AllocGlobal>(
         debug(rt.alloc(), part, &mut file, &mut rt.reader(), &mut out)
     };
     written(&mut out, done.map_err(|fault| message_of(fault, name)))
+}
+
+/// Answers the commands of standard input on what a producer's text is put as, beside a workpiece.
+pub fn debug_text<'a, R: Input + Print + Eprint + AllocGlobal>(
+    rt: &R,
+    voice: Voice,
+    name: &'a str,
+    part: &PartData,
+    given: &Given,
+    text: &[u8],
+) -> Result<(), Message<'a>> {
+    let mut out = output(rt)?;
+    let done = debug_put(rt, voice.is_by_hand, part, given, text, &mut out);
+    written(&mut out, done.map_err(|fault| message_of(fault, name)))
+}
+
+/// Tells why standard input can't be read, if it can't: it is asked before a file is opened, which would get its number where it is closed.
+pub fn unread_input<R: Input>(rt: &R) -> Option<Message<'static>> {
+    match rt.reader().read(&mut []) {
+        Ok(_) => None,
+        Err(_) => Some(Message::Read {
+            name: "standard input",
+        }),
+    }
 }
 
 /// Answers the commands of standard input on the program or image of a file beside the workpiece of another one, which is judged first, and gives the

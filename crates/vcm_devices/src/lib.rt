@@ -18,19 +18,20 @@ mod values;
 mod view;
 
 pub use closing::fails_unless_closed;
-pub use debugging::debug_file;
+pub use debugging::{debug_file, debug_text, unread_input};
 pub use files::{asm_file, build_file, check_file, list_file};
 pub use jobs::run_job;
-pub use pages::show_page;
+pub use pages::{boxes_element_of, names_element, put_name, show_page, story_of};
 pub use parts::{PartFile, moved_part, part_file_given, part_file_of, part_of, show_part};
 pub use printing::{
     DASH, Outlet, Output, STANDARD_INPUT, bytes_of, fails, output, print_bytes, status_after,
     written,
 };
 pub use request::{Request, matches_of, steps_of};
-pub use sheets::{lines_of, show_picture};
+pub use sheets::{LINES, base_name, is_sheet, lines_given, lines_of, show_picture, titles_of};
 pub use showing::{
-    NamedSetting, NamedView, named_setting_of, show_clearance, show_named, show_points, show_view,
+    NamedSetting, NamedView, Unread, boxes_of, named_setting_of, show_clearance, show_named,
+    show_points, show_view, tell_unread,
 };
 pub use talking::{Terminals, Told, Voice, alone, fails_in_view, fails_twice, voice_of};
 pub use values::show_result;

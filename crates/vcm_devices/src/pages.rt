@@ -52,11 +52,12 @@ fn put(out: &mut Vec<u8>, bytes: &[u8]) -> Result<(), RunFault> {
     }
 }
 
-// The element of a page that tells of boxes: their lines, and their clearance in the run of what was read.
+// The element of a page that tells of boxes: their lines, and their clearance in the run of what was read, with these bytes behind the number of ways.
 fn boxes_element(
     alloc: Global,
     part: &PartData,
     boxes: &Boxes,
+    untried: &[u8],
     given: &Given,
     steps: u64,
 ) -> Result<Vec<u8>, RunFault> {
@@ -72,6 +73,7 @@ fn boxes_element(
     // The script of the page reads these lines, which have no names of blocks.
     let view = Clearance {
         boxes,
+        untried,
         block_names: &[],
     };
     match show(alloc, &view, given, part, steps, &mut out) {
@@ -83,22 +85,23 @@ fn boxes_element(
     Ok(out)
 }
 
-// What a page tells of boxes that are fixed to the tip; nothing where none are given.
-fn element_of(
+/// What a page tells of boxes that are fixed to the tip, with these bytes behind the number of ways; nothing where no boxes are given.
+pub fn boxes_element_of(
     alloc: Global,
     part: &PartData,
     boxes: Option<&Boxes>,
+    untried: &[u8],
     given: &Given,
     steps: u64,
 ) -> Result<Vec<u8>, RunFault> {
     match boxes {
-        Some(boxes) => boxes_element(alloc, part, boxes, given, steps),
+        Some(boxes) => boxes_element(alloc, part, boxes, untried, given, steps),
         None => Ok(Vec::new(alloc)),
     }
 }
 
-// Adds a name as it is spelled in an element: `<` and `%` by their bytes.
-fn put_name(out: &mut Vec<u8>, name: &[u8]) -> Result<(), RunFault> {
+/// Adds a name as it is spelled in an element: `<` and `%` by their bytes.
+pub fn put_name(out: &mut Vec<u8>, name: &[u8]) -> Result<(), RunFault> {
     for byte in name {
         match *byte {
             b'<' => put(out, b"%3C")?,
@@ -132,8 +135,8 @@ fn is_some_named(names: &[Vec<u8>]) -> bool {
     false
 }
 
-// The element of a page that has the names of blocks; nothing where none has one.
-fn names_element(alloc: Global, names: &[Vec<u8>]) -> Result<Vec<u8>, RunFault> {
+/// The element of a page that has the names of blocks; nothing where none has one.
+pub fn names_element(alloc: Global, names: &[Vec<u8>]) -> Result<Vec<u8>, RunFault> {
     let mut out = Vec::new(alloc);
     if !is_some_named(names) {
         return Ok(out);
@@ -182,6 +185,25 @@ fn page_done<W: Write>(done: Result<Done, RunFault>, writer: &mut W) -> Result<D
     }
 }
 
+/// The story of a run of what was given, as it stands in a page, with the end of its element.
+pub fn story_of(
+    alloc: Global,
+    part: &PartData,
+    given: Given,
+    steps: u64,
+) -> Result<(Done, Vec<u8>), RunFault> {
+    let texts = Texts {
+        front: &[],
+        back: &[],
+    };
+    let mut story = Vec::new(alloc);
+    match show_given(alloc, &Page { texts }, given, part, steps, &mut story) {
+        Ok(done) => Ok((done, story)),
+        Err(RunFault::Write { .. }) => Err(RunFault::NoMemory),
+        Err(fault) => Err(fault),
+    }
+}
+
 // Writes the page of a run of the program or image that a reader gives, with boxes that are fixed to the tip, if some are given. The input is read once, and its
 // run is made twice: to count its steps, and for the page; with boxes once more, for these.
 fn write_page<I: Read, W: Write>(
@@ -195,7 +217,7 @@ fn write_page<I: Read, W: Write>(
     let given = given_of(alloc, input)?;
     let part = subject.part;
     let names = names_element(alloc, subject.block_names)?;
-    let boxes = element_of(alloc, part, subject.boxes, &given, steps)?;
+    let boxes = boxes_element_of(alloc, part, subject.boxes, &[], &given, steps)?;
     let back = back_with(alloc, &names, &boxes)?;
     let front = front();
     let texts = Texts {

@@ -9,9 +9,10 @@ use std::rt::Files;
 use vcm_messages::Message;
 use vcm_sheet::{ALL_LINES, Lines};
 use vcm_usage::Choice;
-use vcm_views::{Picture, SheetView, Titles};
+use vcm_views::{Picture, SheetView, Titles, Untried, all_tried};
 
-const LINES: Message<'static> = Message::Option {
+/// How it is told that `--lines` gives no lines.
+pub const LINES: Message<'static> = Message::Option {
     words: "--lines wants A-B, two source lines from 1 on, the first not behind the last",
 };
 
@@ -38,20 +39,44 @@ pub fn lines_of(text: &str) -> Option<Lines> {
     }
 }
 
-// The same, where it may be given.
-fn lines_given(text: Option<&str>) -> Option<Lines> {
+/// The same, where it may be given.
+pub fn lines_given(text: Option<&str>) -> Option<Lines> {
     match text {
         Some(text) => lines_of(text),
         None => Some(ALL_LINES),
     }
 }
 
-// The name of a file without its folders.
-fn base_name(path: &str) -> &[u8] {
+/// The name of a file without its folders.
+pub fn base_name(path: &str) -> &[u8] {
     match path.rsplit_once('/') {
         Some((_, name)) => name.as_bytes(),
         None => path.as_bytes(),
     }
+}
+
+/// What a sheet of these lines shows besides the run, where the files and the blocks have these names, and this wasn't tried.
+pub fn titles_of<'a>(
+    request: &Request<'_, '_>,
+    program_name: &'a [u8],
+    part_name: &'a [u8],
+    block_names: &'a [Vec<u8>],
+    lines: Lines,
+    untried: Untried<'a>,
+) -> Titles<'a> {
+    Titles {
+        program_name,
+        part_name,
+        block_names,
+        lines,
+        is_close: request.has(Choice::Close),
+        untried,
+    }
+}
+
+/// Whether a sheet is asked for. `--sheet` makes a picture one, and so does `--lines`.
+pub fn is_sheet(request: &Request<'_, '_>) -> bool {
+    request.has(Choice::Sheet) || request.value(Choice::Stretch).is_some()
 }
 
 // Prints the sheet of a run, and gives the exit status. The steps are judged first, then the lines, then the workpiece.
@@ -70,26 +95,31 @@ fn show_sheet<R: Files + Input + Print + Eprint + AllocGlobal>(
         Ok(named) => named,
         Err(told) => return fails_twice(rt, &told),
     };
-    let titles = Titles {
-        program_name: base_name(request.input()),
-        part_name: base_name(request.part()),
-        block_names: names.as_slice(),
+    let (program, beside) = (base_name(request.input()), base_name(request.part()));
+    let titles = titles_of(
+        request,
+        program,
+        beside,
+        names.as_slice(),
         lines,
-        is_close: request.has(Choice::Close),
-    };
+        all_tried(),
+    );
     let view = View::Sheet(SheetView { titles });
     show_beside(rt, voice, &view, &part, request.input(), steps)
 }
 
-/// Prints the picture of a run, and gives the exit status. `--sheet` makes it a sheet, and so does `--lines`.
+/// Prints the picture of a run, or its sheet, and gives the exit status.
 pub fn show_picture<R: Files + Input + Print + Eprint + AllocGlobal>(
     rt: &R,
     voice: Voice,
     request: &Request<'_, '_>,
 ) -> u8 {
-    if request.has(Choice::Sheet) || request.value(Choice::Stretch).is_some() {
+    if is_sheet(request) {
         return show_sheet(rt, voice, request);
     }
-    let is_close = request.has(Choice::Close);
-    show_view(rt, voice, &View::Picture(Picture { is_close }), request)
+    let picture = Picture {
+        is_close: request.has(Choice::Close),
+        untried: all_tried(),
+    };
+    show_view(rt, voice, &View::Picture(picture), request)
 }

@@ -17,17 +17,14 @@ use vcm_views::{AllContacts, Clearance, Points, Why};
 
 /// Why the boxes of a file aren't read.
 #[derive(Drop)]
-pub(crate) enum Unread {
+pub enum Unread {
     Refused(BoxesFault),
     Device,
     TooLong,
 }
 
 /// The boxes of a file.
-pub(crate) fn boxes_of<R: Files + Input + AllocGlobal>(
-    rt: &R,
-    name: &str,
-) -> Result<Boxes, Unread> {
+pub fn boxes_of<R: Files + Input + AllocGlobal>(rt: &R, name: &str) -> Result<Boxes, Unread> {
     if name == DASH {
         return boxes_in(rt.alloc(), &mut rt.reader());
     }
@@ -52,7 +49,7 @@ fn boxes_in<I: Read>(alloc: Global, reader: &mut I) -> Result<Boxes, Unread> {
 }
 
 /// Tells why a probe file isn't read, and gives the exit status.
-pub(crate) fn tell_unread<R: Eprint>(rt: &R, voice: Voice, unread: &Unread, name: &str) -> u8 {
+pub fn tell_unread<R: Eprint>(rt: &R, voice: Voice, unread: &Unread, name: &str) -> u8 {
     match unread {
         Unread::Refused(fault) => fails_in(rt, voice, probe_message(fault), name),
         Unread::Device => fails(rt, Message::Read { name }),
@@ -234,6 +231,7 @@ pub fn show_clearance<R: Files + Input + Print + Eprint + AllocGlobal>(
         Ok(boxes) => {
             let view = View::Clearance(Clearance {
                 boxes: &boxes,
+                untried: &[],
                 block_names: &setting.block_names,
             });
             show_beside(

@@ -18,7 +18,7 @@ pub enum View<'a> {
     Margin,
     Points(Points),
     Clearance(Clearance<'a>),
-    Picture(Picture),
+    Picture(Picture<'a>),
     Sheet(SheetView<'a>),
 }
 

@@ -3,7 +3,8 @@ use Rattle.std.specs.Prelude.{ℕ, ◌-◌, ◌&&◌, ◌||◌, not, nat_eq, cod
 use Rattle.std.specs.List.{list_any, filter, flat_map, starts_with}
 use Rattle.std.specs.Str.{bytes_eq}
 use Rattle.vcm_lines.specs.declared.logical.Logical.{Logical}
-use Rattle.vcm_lines.specs.Lexemes.{Lexeme}
+use Rattle.vcm_lines.specs.Bytes.{upper}
+use Rattle.vcm_lines.specs.Lexemes.{Lexeme, Run, Quoted, Open}
 use Rattle.vcm_forms.specs.declared.statement.Parameter.{Parameter}
 use Rattle.vcm_forms.specs.declared.statement.Form.{Form}
 use Rattle.vcm_forms.specs.declared.statement.Form.TheVariants.{Declaration, Assignment, Query, Test, Otherwise, TestEnd, Repeat, RepeatEnd, Choose, Case, CaseEnd, Default, ChooseEnd, Feature, Measure, Report, Shift, Rotation, Restore, Mark, Leap, Call, Macro, MacroEnd}
@@ -13,6 +14,8 @@ use Rattle.vcm_heads.specs.declared.rows.Row.{Row}
 use Rattle.vcm_heads.specs.declared.rows.Row.TheVariants.{Other}
 use Rattle.vcm_heads.specs.Heads.{major_of, behind_of, first_field}
 use Rattle.vcm_heads.specs.Rows.{row_in, words_of, own_behind}
+use Rattle.vcm_doubts.specs.declared.loose.Place.{Place}
+use Rattle.vcm_doubts.specs.declared.loose.Place.TheVariants.{InLabel, BehindHead, Elsewhere}
 use Rattle.vcm_doubts.specs.Spellings.{spelled_twice}
 
 -- a jump label: its name, and the blocks that it stands in, the outermost first
@@ -21,14 +24,15 @@ pub record Marked : Type 0 where
   pub blocks : List ℕ
 
 -- what a text leaves in doubt: the names that it spells in two ways, whether a parameter of a macro is one of these, the variables that its macros share with
--- other programs, the variables that statements within macros set, whether a parameter is one of these, and whether a word of it may split a block; and the jump
--- labels that it has
+-- other programs, the variables that statements within macros set, whether a parameter is one of these, the parameters that macros have in quotes, and without them in no label, and
+-- whether a word of it may split a block; and the jump labels that it has
 pub record Doubts : Type 0 where
   pub spelled : List (List ℕ)
   pub twofold : Bool
   pub shared : List (List ℕ)
   pub set : List (List ℕ)
   pub parameters : Bool
+  pub loose : List (List ℕ)
   pub splits : Bool
   pub labels : List Marked
 
@@ -67,6 +71,48 @@ sets_parameter names f = false
 -- whether one of the statements is
 abbrev pub sets_parameters : List (List ℕ) → List Statement → Bool
 sets_parameters names ss = list_any (λ s. sets_parameter names s.form) ss
+
+-- ---- parameters in quotes
+
+-- the text of a word in quotes, in upper case
+abbrev pub quoted_by : Lexeme → List (List ℕ)
+quoted_by (Quoted x) = map upper x ∷ []
+quoted_by w = []
+
+-- the parameters in quotes of the macro that is open behind a statement
+abbrev pub quoted_behind : List (List ℕ) → List Lexeme → List (List ℕ)
+quoted_behind names ws =
+    if bytes_eq (major_of ws) (codes "MACRO") then flat_map quoted_by ws
+    else if bytes_eq (major_of ws) (codes "ENDMAC") then []
+    else names
+
+-- whether a word begins labels, as F of F(NAME): in their parentheses a parameter in quotes stands for a name
+abbrev pub begins_label : List ℕ → Bool
+begins_label w =
+    bytes_eq w (codes "F") || (bytes_eq w (codes "FA") || (bytes_eq w (codes "D") || (bytes_eq w (codes "DA") || (bytes_eq w (codes "DAT")
+    || (bytes_eq w (codes "M") || (bytes_eq w (codes "S") || (bytes_eq w (codes "T") || bytes_eq w (codes "TA"))))))))
+
+-- where the word behind one stands
+abbrev pub place_behind : Place → Lexeme → Place
+place_behind p (Run w) = if begins_label w then BehindHead else Elsewhere
+place_behind BehindHead Open = InLabel
+place_behind p w = Elsewhere
+
+-- a word that is among these names, and stands in no label
+abbrev pub loose_by : List (List ℕ) → Place → Lexeme → List (List ℕ)
+loose_by names InLabel w = []
+loose_by names p (Run w) = if is_among names w then w ∷ [] else []
+loose_by names p w = []
+
+-- the words from such a place on that are among these names, and stand in no label
+abbrev pub loose_words : List (List ℕ) → Place → List Lexeme → List (List ℕ)
+loose_words names p [] = []
+loose_words names p (w ∷ ws) = loose_by names p w ++ loose_words names (place_behind p w) ws
+
+-- the parameters that a macro has in quotes, and whose names stand in its body without them, in no label
+abbrev pub loose_from : List (List ℕ) → List Logical → List (List ℕ)
+loose_from names [] = []
+loose_from names (l ∷ ls) = loose_words names Elsewhere (words_of l) ++ loose_from (quoted_behind names (words_of l)) ls
 
 -- ---- variables that are shared
 
@@ -213,6 +259,7 @@ doubts_of text ls ss = record {
   shared = shared_within (sharing_lines ls) false ss;
   set = set_within false ss;
   parameters = sets_parameters (set_within false ss) ss;
+  loose = loose_from [] ls;
   splits = splits_from false ls;
   labels = marked_from outermost ss;
 }

@@ -79,6 +79,14 @@ all_fit set ps args = false
 abbrev pub is_called : List ℕ → List Argument → Known → Bool
 is_called name args m = bytes_eq m.name name && (nat_le (length m.parameters) MOST_PARAMETERS && all_fit m.set m.parameters args)
 
+-- whether a parameter is in quotes, and stands without them too
+abbrev pub is_loose_one : List (List ℕ) → Parameter → Bool
+is_loose_one loose p = p.quoted && is_among loose p.name
+
+-- whether a macro with this name has such a parameter: some machines put what is given for it in both places
+abbrev pub is_loose : List (List ℕ) → List ℕ → Known → Bool
+is_loose loose name m = bytes_eq m.name name && list_any (is_loose_one loose) m.parameters
+
 -- whether the value of a variable isn't followed: its name is spelled in two ways, or macros share it
 abbrev pub is_unfollowed : Doubts → List ℕ → Bool
 is_unfollowed d name = is_among d.spelled name || is_among d.shared name
@@ -102,11 +110,11 @@ is_doubtful_name d (Some name) = is_among d.spelled name
 abbrev pub is_doubtful : Doubts → Argument → Bool
 is_doubtful d a = is_doubtful_name d a.name || is_doubtful_value d a.value
 
--- whether it isn't known what a CALL does: a parameter is spelled in two ways, no macro above takes these arguments, the macro's name is spelled in two ways, or an
--- argument is read in two ways
+-- whether it isn't known what a CALL does: a parameter is spelled in two ways, no macro above takes these arguments, the macro has a parameter in quotes outside labels, its
+-- name is spelled in two ways, or an argument is read in two ways
 abbrev pub is_doubtful_call : Doubts → List Known → List ℕ → List Argument → Bool
 is_doubtful_call d ms name args =
-    d.twofold || (not (list_any (is_called name args) ms) || (is_among d.spelled name || list_any (is_doubtful d) args))
+    d.twofold || (not (list_any (is_called name args) ms) || (list_any (is_loose d.loose name) ms || (is_among d.spelled name || list_any (is_doubtful d) args)))
 
 -- ---- each statement
 

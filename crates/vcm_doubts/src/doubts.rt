@@ -3,6 +3,7 @@
 ghost use Rattle.std.specs.Prelude.{◌≡◌, IfOk};
 ghost use Rattle.vcm_doubts.specs.Doubts.{doubts_of};
 
+use crate::loose::loose_in;
 use crate::names::{
     have_word, is_among, is_word, names_in, set_within, sets_parameters, shared_within,
 };
@@ -29,6 +30,8 @@ pub(crate) struct Doubts {
     changed: Items<Name>,
     /// A parameter of a macro is one of these.
     parameters: bool,
+    /// The parameters that macros have in quotes, and without them in no label.
+    loose: Items<Items<u8>>,
     /// A word of it may split a block.
     splits: bool,
     /// Its jump labels.
@@ -40,7 +43,7 @@ impl Model for Doubts {
 
     ghost Value = { Meaning };
 
-    ghost view = { λ d. record { spelled = d.spelled; twofold = d.twofold; shared = d.shared; set = d.changed; parameters = d.parameters; splits = d.splits; labels = d.labels } };
+    ghost view = { λ d. record { spelled = d.spelled; twofold = d.twofold; shared = d.shared; set = d.changed; parameters = d.parameters; loose = d.loose; splits = d.splits; labels = d.labels } };
 }
 
 impl Doubts {
@@ -69,6 +72,7 @@ impl Doubts {
         let shared = shared_within(alloc, lines, said)?;
         let changed = set_within(alloc, said)?;
         let parameters = sets_parameters(changed.as_slice(), said);
+        let loose = loose_in(alloc, lines)?;
         let labels = labels_of(alloc, said)?;
         Ok(Doubts {
             spelled,
@@ -76,6 +80,7 @@ impl Doubts {
             shared,
             changed,
             parameters,
+            loose,
             splits: splits(lines),
             labels,
         })
@@ -117,6 +122,13 @@ impl Doubts {
         ensures { result ≡ (self.now.parameters || is_among self.now.set name.now) }
     {
         self.parameters || is_among(self.changed.as_slice(), name)
+    }
+
+    /// The parameters that macros have in quotes, and without them in no label.
+    pub(crate) fn loose(&self) -> &[Items<u8>]
+        ensures { result.now ≡ self.now.loose }
+    {
+        self.loose.as_slice()
     }
 
     /// Whether a word may split a block.

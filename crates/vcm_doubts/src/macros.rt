@@ -2,9 +2,9 @@
 
 ghost use Rattle.std.specs.Prelude.{◌≡◌, IfOk, OnOk};
 ghost use Rattle.std.specs.List.{list_any};
-ghost use Rattle.vcm_doubts.specs.Settled.{begun, fits, all_fit, is_called};
+ghost use Rattle.vcm_doubts.specs.Settled.{begun, fits, all_fit, is_called, is_loose_one, is_loose};
 
-use crate::names::{add_set, is_among};
+use crate::names::{add_set, is_among, is_word};
 use crate::reach::{go_behind, outermost};
 use std::alloc::Global;
 use std::marker::Model;
@@ -64,6 +64,22 @@ fn all_fit(changed: &[Name], parameters: &[Parameter], arguments: &[Argument]) -
     arguments.is_empty()
 }
 
+// Whether a parameter is in quotes, and stands without them too.
+fn is_loose_one(loose: &[Items<u8>], parameter: &Parameter) -> bool
+    ensures { result ≡ is_loose_one loose.now parameter.now }
+{
+    parameter.quoted && is_word(loose, parameter.name.as_bytes())
+}
+
+// Whether one of the parameters is.
+fn has_loose_one(loose: &[Items<u8>], parameters: &[Parameter]) -> bool
+    ensures { result ≡ list_any (is_loose_one loose.now) parameters.now }
+{
+    parameters
+        .iter()
+        .any(|parameter| is_loose_one(loose, parameter))
+}
+
 impl Model for Known {
     ghost use Rattle.vcm_doubts.specs.Settled.{Known as Meaning};
 
@@ -107,6 +123,20 @@ impl Known {
                 arguments,
             )
     }
+}
+
+// Whether a macro has this name, and a parameter that is in quotes and stands without them too.
+fn is_loose(loose: &[Items<u8>], name: &[u8], known: &Known) -> bool
+    ensures { result ≡ is_loose loose.now name.now known.now }
+{
+    is(known.name.as_bytes(), name) && has_loose_one(loose, known.parameters.as_slice())
+}
+
+// Whether one of these macros has.
+fn has_loose(macros: &[Known], loose: &[Items<u8>], name: &[u8]) -> bool
+    ensures { result ≡ list_any (is_loose loose.now name.now) macros.now }
+{
+    macros.iter().any(|known| is_loose(loose, name, known))
 }
 
 // Whether one of these macros may be called by this name with these arguments.
@@ -161,6 +191,14 @@ impl Macros {
         ensures { result ≡ list_any (is_called name.now arguments.now) self.now.above }
     {
         has_called(&self.above, name, arguments)
+    }
+
+    /// Whether a macro above has this name, and a parameter that is in quotes and stands without them too.
+    #[tactic(auto, using(crate::proofs::Reversed::any_reversed))]
+    pub(crate) fn have_loose(&self, loose: &[Items<u8>], name: &[u8]) -> bool
+        ensures { result ≡ list_any (is_loose loose.now name.now) self.now.above }
+    {
+        has_loose(&self.above, loose, name)
     }
 
     // A macro begins.

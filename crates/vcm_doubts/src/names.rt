@@ -20,8 +20,8 @@ pub(crate) fn is_among(names: &[Name], name: &[u8]) -> bool
     names.iter().any(|one| is(name, one.as_bytes()))
 }
 
-// Whether a MACRO is open behind a statement.
-fn is_open_behind(opened: bool, form: &Form) -> bool
+/// Whether a MACRO is open behind a statement.
+pub(crate) fn is_open_behind(opened: bool, form: &Form) -> bool
     ensures { result ≡ is_open_behind opened form.now }
 {
     match form {
@@ -104,8 +104,8 @@ fn is_sharing(logical: &Logical) -> bool
     is(major, b"DECL") && (is(field, b"GLOBAL") || is(field, b"COMMON"))
 }
 
-// The lines of statements that declare such variables.
-fn sharing_lines(alloc: Global, lines: &[Logical]) -> Result<Items<u32>, NoMemory>
+/// The lines of statements that declare such variables.
+pub(crate) fn sharing_lines(alloc: Global, lines: &[Logical]) -> Result<Items<u32>, NoMemory>
     ensures { IfOk result (λ ns. ns ≡ sharing_lines lines.now) }
 {
     let mut numbers = Items::new(alloc);
@@ -117,8 +117,8 @@ fn sharing_lines(alloc: Global, lines: &[Logical]) -> Result<Items<u32>, NoMemor
     Ok(numbers)
 }
 
-// Whether a line is one of these.
-fn is_line(lines: &[u32], line: u32) -> bool
+/// Whether a line is one of these.
+pub(crate) fn is_line(lines: &[u32], line: u32) -> bool
     ensures { result ≡ list_any (nat_eq line) lines.now }
 {
     lines.iter().any(|one| line == *one)
@@ -134,8 +134,8 @@ fn add_variables(names: &mut Items<Name>, variables: &[VariableName]) -> Result<
     Ok(())
 }
 
-// The variables of a declaration.
-fn add_declared(names: &mut Items<Name>, form: &Form) -> Result<(), NoMemory>
+/// The variables of a declaration.
+pub(crate) fn add_declared(names: &mut Items<Name>, form: &Form) -> Result<(), NoMemory>
     ensures { OnOk result (names.new ≡ names.old ++ declared_by form.now) }
 {
     match form {
@@ -219,8 +219,11 @@ fn add_name(names: &mut Items<Name>, name: Option<Name>) -> Result<(), NoMemory>
     }
 }
 
-// The names of parameters.
-fn add_parameters(names: &mut Items<Name>, parameters: &[Parameter]) -> Result<(), NoMemory>
+/// The names of parameters.
+pub(crate) fn add_parameters(
+    names: &mut Items<Name>,
+    parameters: &[Parameter],
+) -> Result<(), NoMemory>
     ensures { OnOk result (names.new ≡ names.old ++ parameter_names parameters.now) }
 {
     for parameter in parameters {

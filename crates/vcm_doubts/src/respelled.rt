@@ -76,8 +76,8 @@ fn lowered_once(alloc: Global, words: &[Items<u8>]) -> Result<Items<Items<u8>>, 
     Ok(found)
 }
 
-// A word as the language reads it.
-fn raised(alloc: Global, word: &[u8]) -> Result<Items<u8>, NoMemory>
+/// A word as the language reads it.
+pub(crate) fn raised(alloc: Global, word: &[u8]) -> Result<Items<u8>, NoMemory>
     ensures { IfOk result (λ bytes. bytes ≡ map upper word.now) }
 {
     let mut bytes = Items::new(alloc);

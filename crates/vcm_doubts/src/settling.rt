@@ -73,13 +73,14 @@ fn has_doubtful(doubts: &Doubts, arguments: &[Argument]) -> bool
         .any(|argument| is_doubtful(doubts, argument))
 }
 
-// Whether it isn't known what a CALL does: a parameter is spelled in two ways, no macro above takes these arguments, its name is spelled in two ways, or an argument is read in two ways.
+// Whether it isn't known what a CALL does: a parameter is spelled in two ways, no macro above takes these arguments, the macro has a parameter in quotes outside labels, its name is spelled in two ways, or an argument is read in two ways.
 fn is_doubtful_call(doubts: &Doubts, macros: &Macros, name: &Name, arguments: &[Argument]) -> bool
     ensures { result ≡ is_doubtful_call doubts.now macros.now.above name.now arguments.now }
 {
     let name = name.as_bytes();
     doubts.is_twofold()
         || !macros.have(name, arguments)
+        || macros.have_loose(doubts.loose(), name)
         || doubts.is_spelled_twice(name)
         || has_doubtful(doubts, arguments)
 }

@@ -14,7 +14,9 @@ mod session_entries;
 use crate::file_entries::{
     code_entries, image_entries, listing_entries, part_entries, placing_entries,
 };
-use crate::line_entries::{result_entries, view_entries, whole_entries, why_entries};
+use crate::line_entries::{
+    result_entries, taken_entries, view_entries, whole_entries, why_entries,
+};
 use crate::many_entries::many_entries;
 use crate::model_entries::{
     model_entries, model_line_entries, model_notice_entries, model_size_entries,
@@ -29,7 +31,7 @@ use crate::session_entries::session_entries;
 pub use entry::Entry;
 
 /// All explanations: of programs, of part files, probe files, models, images and listings, of the debugger, of runs, and of the lines of answers.
-pub fn explanations() -> [&'static [Entry]; 29] {
+pub fn explanations() -> [&'static [Entry]; 30] {
     [
         line_entries(),
         spelling_entries(),
@@ -53,6 +55,7 @@ pub fn explanations() -> [&'static [Entry]; 29] {
         motion_entries(),
         arithmetic_entries(),
         whole_entries(),
+        taken_entries(),
         notice_entries(),
         device_entries(),
         result_entries(),

@@ -154,7 +154,54 @@ pub(crate) fn view_entries() -> &'static [Entry] {
     &VIEWS
 }
 
+const WHOLE_TAKEN: [Entry; 5] = [
+    Entry {
+        keys: &[
+            "notice: sums of decimals are compared as exact ones",
+            "sums of decimals are compared as exact ones",
+        ],
+        text: "sums of decimals are compared as exact ones
+With `--whole`: these lines compare a variable that is reckoned of decimals as 0.1. They
+are exact here; a machine that counts in binary digits has a little more or less, and may
+choose otherwise where both sides are the same. What to do: look whether that may be.",
+    },
+    Entry {
+        keys: &[
+            "notice: macros use variables of the main program",
+            "macros use variables of the main program",
+        ],
+        text: "macros use variables of the main program
+With `--whole`: these lines of macros use a variable that the main program declares, and
+not by DECL/GLOBAL or DECL/COMMON. It is the main program's here; some machines don't see
+it there.",
+    },
+    Entry {
+        keys: &["notice: values that are cut off", "values that are cut off"],
+        text: "values that are cut off
+With `--whole`: the text has quotients, or products with decimals. Each value is cut off at
+a thousandth; a length that may lie more than 0.005 mm from the machine's isn't tried.",
+    },
+    Entry {
+        keys: &["approached, not touched"],
+        text: "approached, not touched
+After a run with `--whole`: the probe went before these points, and not onto them: slanted
+points, points with `--approach`, and points whose way back isn't known. Nothing measured
+is known by them.",
+    },
+    Entry {
+        keys: &["not reported"],
+        text: "not reported
+After a run with `--whole`: these OUTPUTs aren't written, since their features weren't
+measured in the frame that is the current one there.",
+    },
+];
+
 // Explanations of what is told of producers' texts as they stand.
 pub(crate) fn whole_entries() -> &'static [Entry] {
     &WHOLE
+}
+
+// Explanations of what is taken in one way in producers' texts, and of points that weren't touched.
+pub(crate) fn taken_entries() -> &'static [Entry] {
+    &WHOLE_TAKEN
 }

@@ -109,7 +109,9 @@ still meets none; with one more it meets the block that the line below tells, th
         text: "ways
 A line of `vcm clearance`: how many straight ways the probe went in the run. A move is
 one; a measured point is up to three, the approach, the search and the way back. `ways 0`
-means that nothing was tried, not even home.",
+means that nothing was tried, not even home. With `--whole` it tells too how many motions
+of the text weren't tried, here and above the margin of `vcm margin`: `ways 46, not tried 7`,
+and from which line on none was. What is clear is clear on the ways that were tried.",
     },
 ];
 

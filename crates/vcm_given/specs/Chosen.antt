@@ -34,6 +34,7 @@ use Rattle.vcm_given.specs.declared.choices.Answer.{Answer}
 use Rattle.vcm_given.specs.declared.choices.Choices.{Choices}
 use Rattle.vcm_given.specs.declared.answers.Asked.{Asked}
 use Rattle.vcm_given.specs.Values.{given_value}
+use Rattle.vcm_given.specs.Texts.{fitting_answers}
 use Rattle.vcm_given.specs.declared.spoken.Saying.{Saying}
 use Rattle.vcm_given.specs.declared.spoken.Saying.TheVariants.{Harmless, Back, Same}
 use Rattle.vcm_given.specs.declared.spoken.Spoken.{Spoken}
@@ -238,4 +239,4 @@ chosen_by c qs ps ts ss = take 2 ss ++ (on_line 1 (chosen_first c) ++ flat_map (
 
 -- the statements that the lines of a text say, with what is given
 abbrev pub chosen : Choices → List Logical → List Statement → List Statement
-chosen c ls ss = chosen_by c (asked_from c.answers false ls) (spoken c.harmless c.table ls) (other_tips c.tip ls) ss
+chosen c ls ss = chosen_by c (asked_from (fitting_answers c.answers ls) false ls) (spoken c.harmless c.table ls) (other_tips c.tip ls) ss

@@ -1,4 +1,5 @@
 pub mod Values
+pub mod Texts
 pub mod Fields
 pub mod Tips
 pub mod Spoken

@@ -16,6 +16,7 @@ use Rattle.vcm_given.specs.declared.unused.TheConstants.{DEEPEST}
 use Rattle.vcm_heads.specs.Rows.{row_in, words_of}
 use Rattle.vcm_given.specs.Spoken.{goes_by}
 use Rattle.vcm_given.specs.Chosen.{asked_from}
+use Rattle.vcm_given.specs.Texts.{fitting_answers}
 
 -- ---- frames
 
@@ -120,7 +121,7 @@ abbrev pub unspoken : List Logical → List (List ℕ) → Option (List ℕ)
 unspoken ls [] = None
 unspoken ls (n ∷ ns) = if list_any (is_gone_by n) ls then unspoken ls ns else Some n
 
--- the first name that is given and that the text never uses: a frame that no statement takes as it is given, a variable that no question asks for, or a harmless word
+-- the first name that is given and that the text never uses: a frame that no statement takes as it is given, a variable that no question asks for or whose answer doesn't fit it, or a harmless word
 -- that no statement goes by
 abbrev pub unused : Choices → List Logical → List Statement → Option (List ℕ)
-unused c ls ss = name_or (unmade ss c.frames) (name_or (unasked (asked_from c.answers false ls) c.answers) (unspoken ls c.harmless))
+unused c ls ss = name_or (unmade ss c.frames) (name_or (unasked (asked_from (fitting_answers c.answers ls) false ls) c.answers) (unspoken ls c.harmless))

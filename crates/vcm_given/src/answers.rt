@@ -31,13 +31,12 @@ pub struct Asked {
 
 impl Answer {
     // The same answer.
-    fn copy(&self) -> Answer
-        ensures { result ≡ self.now }
+    fn copy(&self, alloc: Global) -> Result<Answer, NoMemory>
+        ensures { IfOk result (λ a. a ≡ self.now) }
     {
-        Answer {
-            variable: self.variable.copy(),
-            value: self.value,
-        }
+        let variable = self.variable.copy();
+        let value = self.value.copy(alloc)?;
+        Ok(Answer { variable, value })
     }
 }
 
@@ -93,15 +92,21 @@ fn answer_for<'a>(name: &[u8], answers: &'a [Answer]) -> Option<&'a Answer>
 }
 
 // The answer to a question, if one is given.
-fn ask(out: &mut Vec<Asked>, answers: &[Answer], logical: &Logical) -> Result<(), NoMemory>
+fn ask(
+    alloc: Global,
+    out: &mut Vec<Asked>,
+    answers: &[Answer],
+    logical: &Logical,
+) -> Result<(), NoMemory>
     ensures { OnOk result (out.new.items ≡ out.old.items ++ asked_on logical.now.line (answer_for (asked (row_in (words_of logical.now)) (words_of logical.now)) answers.now)) }
 {
     let Some(answer) = answer_for(asked_variable(logical), answers) else {
         return Ok(());
     };
+    let answer = answer.copy(alloc)?;
     out.push(Asked {
         line: logical.line,
-        answer: answer.copy(),
+        answer,
     })?;
     Ok(())
 }
@@ -118,7 +123,7 @@ pub(crate) fn ask_all(
     let mut own = false;
     for logical in lines {
         if !own {
-            ask(&mut out, answers, logical)?;
+            ask(alloc, &mut out, answers, logical)?;
         }
         own = own_behind(own, logical);
     }
@@ -153,6 +158,6 @@ pub(crate) fn assignment_of(alloc: Global, answer: &Answer) -> Result<Form, NoMe
         name: answer.variable.copy().into_name(),
         expansion: 0,
     };
-    let value = given(alloc, answer.value)?;
+    let value = given(alloc, &answer.value)?;
     Ok(Form::Assignment(target, value))
 }

@@ -5,11 +5,12 @@ ghost use Rattle.vcm_given.specs.Chosen.{no_choices, is_silent};
 
 use std::alloc::Global;
 use vcm_items::{Name, VariableName};
+use vcm_lines::OwnedBytes;
 use vcm_num::Items;
 use vcm_spec::{FrameAxis, Quarters};
 
 /// A value that is given.
-#[derive(Clone, Copy)]
+#[derive(Drop)]
 pub enum Value {
     /// A whole number.
     Int(i32),
@@ -17,6 +18,8 @@ pub enum Value {
     Real(i32),
     /// A truth value.
     Truth(bool),
+    /// A text, for a variable of texts.
+    Text(OwnedBytes),
 }
 
 /// Where a frame lies: the machine coordinates of its origin, in micrometres, and how it is turned about an axis of the machine.

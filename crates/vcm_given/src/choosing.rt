@@ -16,6 +16,7 @@ use crate::choices::{Answer, Choices};
 use crate::frames::{frame_named, place, place_all};
 use crate::spoken::{Saying, Spoken, saying_at, sayings_of};
 use crate::statements::add;
+use crate::texts::fitting_answers;
 use crate::tips::{OtherTip, is_other_at, other_tips};
 use std::alloc::Global;
 use std::vec::IntoIter;
@@ -367,7 +368,8 @@ pub fn choose(
 ) -> Result<Vec<Statement>, NoMemory>
     ensures { IfOk result (λ ss. ss.items ≡ chosen choices.now lines.now said.items) }
 {
-    let asked = ask_all(alloc, choices.answers.as_slice(), lines)?;
+    let answers = fitting_answers(alloc, choices.answers.as_slice(), lines)?;
+    let asked = ask_all(alloc, answers.as_slice(), lines)?;
     let spoken = sayings_of(alloc, choices.harmless.as_slice(), choices.table, lines)?;
     let tips = other_tips(alloc, choices.tip, lines)?;
     choose_by(

@@ -8,12 +8,14 @@ mod fields;
 mod frames;
 mod spoken;
 mod statements;
+mod texts;
 mod tips;
 mod unused;
 mod values;
 
 pub use choices::{Answer, Choices, GivenFrame, Value};
 pub use choosing::choose;
+pub use texts::given_texts;
 pub use tips::{OtherTip, Width, other_tips};
 pub use unused::first_unused;
 

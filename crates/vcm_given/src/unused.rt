@@ -1,13 +1,16 @@
 //! What is given and the text never uses.
 
-ghost use Rattle.std.specs.Prelude.{◌≡◌, IfOk};
+ghost use Rattle.std.specs.Prelude.{◌≡◌, false, IfOk};
 ghost use Rattle.std.specs.Str.{bytes_eq};
 ghost use Rattle.vcm_given.specs.Unused.{is_this, hands_over, places, takes, makes, deeper, depth_behind, is_jump, nothing_above, above_behind, takes_at, is_taken, unmade, is_asked, unasked, is_gone_by, unspoken, unused};
 ghost use Rattle.std.specs.List.{list_any};
+ghost use Rattle.vcm_given.specs.Chosen.{asked_from};
+ghost use Rattle.vcm_given.specs.Texts.{fitting_answers as fitting};
 
 use crate::answers::{Asked, ask_all};
 use crate::choices::{Answer, Choices, GivenFrame};
 use crate::spoken::goes_by;
+use crate::texts::fitting_answers;
 use std::alloc::Global;
 use vcm_forms::{Argument, Form, Statement};
 use vcm_items::Name;
@@ -205,6 +208,26 @@ fn unspoken(lines: &[Logical], names: &[Name]) -> Option<Name>
     None
 }
 
+// The questions of a text, with the answers that fit their variables.
+fn asked_by(alloc: Global, answers: &[Answer], lines: &[Logical]) -> Result<Vec<Asked>, NoMemory>
+    ensures { IfOk result (λ qs. qs.items ≡ asked_from (fitting answers.now lines.now) false lines.now) }
+{
+    let own = fitting_answers(alloc, answers, lines)?;
+    ask_all(alloc, own.as_slice(), lines)
+}
+
+// The first variable that no question asks for, or whose answer doesn't fit it.
+fn first_unasked(
+    alloc: Global,
+    answers: &[Answer],
+    lines: &[Logical],
+) -> Result<Option<Name>, NoMemory>
+    ensures { IfOk result (λ name. name ≡ unasked (asked_from (fitting answers.now lines.now) false lines.now) answers.now) }
+{
+    let asked = asked_by(alloc, answers, lines)?;
+    Ok(unasked(&asked, answers))
+}
+
 /// The first name that is given and that the text never uses: a frame that no statement takes as it is given, a variable that no question asks for, or a harmless word that
 /// no statement goes by.
 ///
@@ -222,9 +245,7 @@ pub fn first_unused(
     if let Some(name) = unmade(said, choices.frames.as_slice()) {
         return Ok(Some(name));
     }
-    let answers = choices.answers.as_slice();
-    let asked = ask_all(alloc, answers, lines)?;
-    match unasked(&asked, answers) {
+    match first_unasked(alloc, choices.answers.as_slice(), lines)? {
         Some(name) => Ok(Some(name)),
         None => Ok(unspoken(lines, choices.harmless.as_slice())),
     }

@@ -28,7 +28,7 @@ use Rattle.vcm_kept.specs.Guarding.{Reached, begun_in, loops_by, block, opened, 
 use Rattle.vcm_kept.specs.Choices.{next_depth, inner_depth, choice_end, depths, declares_choice, declares_choices}
 use Rattle.vcm_kept.specs.Datums.{declares_datums}
 use Rattle.vcm_kept.specs.Laws.{ends_block, is_line_for, EachIsOnItsLine, is_line_in, AllAreOnLinesOfTheText}
-use Rattle.vcm_kept.proofs.OnLines.{are_on, joined, each, cases_on, defaults_on, case_ends_on, moves_on, homes_on, declares_all_on, assigns_or_on, touches_on, measures_on, measured_on, configures_on, turns_in_on, recalls_at_on, queries_on, reports_at_on, closes_on, tests_on, chooses_on, repeats_on, loop_ends_on, ending_on, features_or_on, shifts_or_on, lates_on}
+use Rattle.vcm_kept.proofs.OnLines.{are_on, joined, each, cases_on, defaults_on, case_ends_on, moves_on, homes_on, declares_all_on, assigns_or_on, touches_or_on, measures_on, measured_on, configures_on, turns_in_on, recalls_at_on, queries_on, reports_at_on, closes_on, tests_on, chooses_on, repeats_on, loop_ends_on, ending_on, features_or_on, shifts_or_on, lates_on}
 
 -- ---- one statement
 
@@ -54,7 +54,7 @@ module _ (test : ℕ → Bool) (line : ℕ) (h : test line ≡ true) where
   guards_on text r e form.ChooseEnd o = chooses_end_on e (choice_end text.several) (first_block r.blocks) r.assigned (o refl)
   guards_on text r e (form.Feature l p d) o = features_or_on test line h text r e l p d (spot_named l)
   guards_on text r e (form.Measure l) o = measures_on test line h
-  guards_on text r e (form.Touch p d) o = touches_on test line h text.steps e r.variables r.features p d r.measuring
+  guards_on text r e (form.Touch p d) o = touches_or_on test line h text.halts text.steps e r.variables r.features p d r.measuring
   guards_on text r e form.MeasureEnd o = measured_on test line h text.datums r.features r.measuring
   guards_on text r e (form.Configure which value) o = configures_on test line h text.slants e r.variables which value
   guards_on text r e (form.Shift l os) o = shifts_or_on test line h text r e l os (is_same_name slanted_name l)

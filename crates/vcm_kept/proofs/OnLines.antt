@@ -66,8 +66,8 @@ use Rattle.vcm_events.specs.Spots.{spot_named, slanted_name}
 use Rattle.vcm_forms.specs.declared.statement.Form.{Form}
 use Rattle.vcm_forms.specs.declared.statement.Form.TheVariants as form
 use Rattle.vcm_kept.specs.Exactly.{want_of}
-use Rattle.vcm_kept.specs.Places.{has_place, motion_asks, point_asks, approach_asks, aimed, within, asks_place, asks_point, keeps_here, keeps_known, keeps, tracks, loses_track, goes_to, moves_known, moves, goes_home, homes, reaches_target, step_asks, step_place, steps_known, steps_to, steps_by, before, left_behind, approaches_known, approaches_by, approaches, slants, keeps_setting}
-use Rattle.vcm_kept.specs.Guarding.{Reached, with_variable, declares_variable, declares_one, declares_all, assigned_where, assigned_to, assigned_by, assigned, is_nothing, turns_machine, turns_state, changes_sensor, selects, unselected, is_selected, selects_number, selects_by, wants_points, recalls_machine, turns_polar, happens, assigns_or, is_nominal, point, point_goes, own_point, direction_asks, touches_declared, touches_itself, touches_at, touches, measures, keeps_point, measured_index, counts_points, leaves_points, measured, nominal_where, direction_of, sets_direction, keeps_direction, features_at, declares_direction, declares_feature, feature_gone, features_in, features, carried_setting, setting_where, configures, declares_frame, made_where, found_in, has_shifts, asks_shifts, shifts_at, shifts_in, shifts, origins_at, origins_in, frames_by, queries, adds_number, begins_block, turns_at, turns_in, recalled_where, recalls_at, obtains_here, obtains_at, obtains_by, reports_at, closes, unknown_asks, tests, chooses, asks_increment, asks_rounds, repeats, loop_ends, ending, spots_by, features_or, direction_in, approaches_feature, slants_or, shifts_or, is_aimed, makes_frame, late_shift, late_place, late_touch, late_end, late_value, late_report, lates}
+use Rattle.vcm_kept.specs.Places.{has_place, motion_asks, point_asks, approach_asks, aimed, within, asks_place, asks_point, keeps_here, keeps_known, keeps, tracks, loses_track, goes_to, moves_known, moves, goes_home, homes, reaches_target, step_asks, step_place, steps_known, steps_to, steps_by, before, halt_asks, left_behind, approaches_known, approaches_by, approaches, halts_known, halts_by, halts, slants, keeps_setting}
+use Rattle.vcm_kept.specs.Guarding.{Reached, with_variable, declares_variable, declares_one, declares_all, assigned_where, assigned_to, assigned_by, assigned, is_nothing, turns_machine, turns_state, changes_sensor, selects, unselected, is_selected, selects_number, selects_by, wants_points, recalls_machine, turns_polar, happens, assigns_or, is_nominal, point, point_goes, own_point, direction_asks, touches_declared, touches_itself, touches_at, touches, halts_along, touches_where, touches_or, measures, keeps_point, measured_index, counts_points, leaves_points, measured, nominal_where, direction_of, sets_direction, keeps_direction, features_at, declares_direction, declares_feature, feature_gone, features_in, features, carried_setting, setting_where, configures, declares_frame, made_where, found_in, has_shifts, asks_shifts, shifts_at, shifts_in, shifts, origins_at, origins_in, frames_by, queries, adds_number, begins_block, turns_at, turns_in, recalled_where, recalls_at, obtains_here, obtains_at, obtains_by, reports_at, closes, unknown_asks, tests, chooses, asks_increment, asks_rounds, repeats, loop_ends, ending, spots_by, features_or, direction_in, approaches_feature, slants_or, shifts_or, is_aimed, makes_frame, late_shift, late_place, late_touch, late_end, late_value, late_report, lates}
 
 -- ---- lists
 
@@ -321,13 +321,13 @@ module _ (test : ℕ → Bool) (line : ℕ) (h : test line ≡ true) where
 
   -- ---- points that are approached and left
 
-  left_behind_on : (steps : Bool) → are_on test (left_behind steps line) ≡ true
+  left_behind_on : (steps there : Bool) → are_on test (left_behind steps line there) ≡ true
   unfolding left_behind
-  left_behind_on steps = rw h (joined test _ _ (loses_track_on steps) (rw h (joined test _ _ untried_point_on (rw h))))
+  left_behind_on steps there = rw h (joined test _ _ (loses_track_on steps) (rw h (joined test _ _ untried_point_on (rw h))))
 
   approaches_known_on : (steps : Bool) (vs : List Variable) (known : Source) (p a r : Coordinates) → are_on test (approaches_known steps line vs known p a r) ≡ true
   unfolding approaches_known
-  approaches_known_on steps vs known p a r = joined test _ _ (asks_point_on vs known p) (rw h (left_behind_on steps))
+  approaches_known_on steps vs known p a r = joined test _ _ (asks_point_on vs known p) (rw h (left_behind_on steps true))
 
   approaches_by_on : (steps : Bool) (vs : List Variable) (known : Source) (p : Coordinates) (a r : Option Coordinates)
       → are_on test (approaches_by steps line vs known p a r) ≡ true
@@ -337,6 +337,17 @@ module _ (test : ℕ → Bool) (line : ℕ) (h : test line ≡ true) where
   approaches_on : (steps : Bool) (vs : List Variable) (known : Source) (p d : Coordinates) → are_on test (approaches steps line vs known p d) ≡ true
   approaches_on steps vs known p d =
       either test (has_place vs p) _ _ (approaches_by_on steps vs known p (before lengths.Approach p d) (before lengths.Retract p d)) untried_point_on
+
+  halts_known_on : (steps : Bool) (vs : List Variable) (known : Source) (p a : Coordinates) → are_on test (halts_known steps line vs known p a) ≡ true
+  unfolding halts_known
+  halts_known_on steps vs known p a = joined test _ _ (asks_point_on vs known p) (rw h (left_behind_on steps false))
+
+  halts_by_on : (steps : Bool) (vs : List Variable) (known : Source) (p : Coordinates) (a : Option Coordinates) → are_on test (halts_by steps line vs known p a) ≡ true
+  halts_by_on steps vs known p (Some a) = halts_known_on steps vs known p a
+  halts_by_on steps vs known p None = untried_point_on
+
+  halts_on : (steps : Bool) (vs : List Variable) (known : Source) (p d : Coordinates) → are_on test (halts steps line vs known p d) ≡ true
+  halts_on steps vs known p d = either test (has_place vs p) _ _ (halts_by_on steps vs known p (before lengths.Approach p d)) untried_point_on
 
   slants_on : (slanted steps : Bool) (vs : List Variable) (os : List Offset) → are_on test (slants slanted steps line vs os) ≡ true
   slants_on true steps vs (w ∷ []) = rw h
@@ -578,7 +589,7 @@ module _ (test : ℕ → Bool) (line : ℕ) (h : test line ≡ true) where
   touches_at_on steps e vs l p d None = touches_itself_on steps e vs l p d
   touches_at_on steps e vs l p d (Some i) = touches_declared_on steps e vs l i p d
 
-  pub touches_on : (steps : Bool) (e : ℕ) (vs : List Variable) (fs : List (List ℕ)) (p : Coordinates) (d : Option Axis) (l : Option (List ℕ))
+  touches_on : (steps : Bool) (e : ℕ) (vs : List Variable) (fs : List (List ℕ)) (p : Coordinates) (d : Option Axis) (l : Option (List ℕ))
       → are_on test (touches steps line e vs fs p d l) ≡ true
   touches_on steps e vs fs p d None = untried_point_on
   touches_on steps e vs fs p d (Some l) = either test (has_place vs p) _ _ (touches_at_on steps e vs l p d (index_of fs l)) untried_point_on
@@ -825,6 +836,23 @@ module _ (test : ℕ → Bool) (line : ℕ) (h : test line ≡ true) where
   approaches_feature_on : (steps : Bool) (vs : List Variable) (p : Coordinates) (i : Option ℕ) → are_on test (approaches_feature steps line vs p i) ≡ true
   approaches_feature_on steps vs p None = untried_point_on
   approaches_feature_on steps vs p (Some i) = approaches_on steps vs (both approach_asks (is_nominal i)) p (direction_in i)
+
+  halts_along_on : (steps : Bool) (vs : List Variable) (p : Coordinates) (d : Option Axis) (i : Option ℕ) → are_on test (halts_along steps line vs p d i) ≡ true
+  halts_along_on steps vs p (Some d) i = halts_on steps vs halt_asks p (direction_of d)
+  halts_along_on steps vs p None None = untried_point_on
+  halts_along_on steps vs p None (Some i) = halts_on steps vs (both halt_asks (is_nominal i)) p (direction_in i)
+
+  touches_where_on : (steps : Bool) (e : ℕ) (vs : List Variable) (fs : List (List ℕ)) (p : Coordinates) (d : Option Axis) (l : List ℕ)
+      → are_on test (touches_where steps line e vs fs p d l) ≡ true
+  unfolding touches_where
+  touches_where_on steps e vs fs p d l =
+      rw h (joined test _ _ (touches_on steps e vs fs p d (Some l)) (rw h (joined test _ _ (halts_along_on steps vs p d (index_of fs l)) (rw h))))
+
+  pub touches_or_on : (halting steps : Bool) (e : ℕ) (vs : List Variable) (fs : List (List ℕ)) (p : Coordinates) (d : Option Axis) (l : Option (List ℕ))
+      → are_on test (touches_or halting steps line e vs fs p d l) ≡ true
+  touches_or_on true steps e vs fs p d (Some l) = touches_where_on steps e vs fs p d l
+  touches_or_on true steps e vs fs p d None = touches_on steps e vs fs p d None
+  touches_or_on false steps e vs fs p d l = touches_on steps e vs fs p d l
 
   slants_or_on : (text : Text) (vs : List Variable) (i : Option ℕ) (os : List Offset) → are_on test (slants_or text line vs i os) ≡ true
   slants_or_on text vs i (x ∷ y ∷ z ∷ []) = approaches_feature_on text.steps vs (record { x = x.length; y = y.length; z = z.length }) i

@@ -58,7 +58,7 @@ use Rattle.vcm_kept.specs.Named.{drops_frames, drops_frame, drops_feature, remak
 use Rattle.vcm_events.specs.Datums.{are_origins}
 use Rattle.vcm_kept.specs.Effects.{no_effects, either_effects, effects_of, set_by, other_tip, lose_block}
 use Rattle.vcm_remarks.specs.declared.remark.Remark.TheVariants.{NotReported, AnotherTip}
-use Rattle.vcm_kept.specs.Places.{has_place, asks_place, motion_asks, length_asks, point_asks, approach_asks, asks_point, moves, homes, keeps, loses_track, reaches_target, steps_by, approaches, slants, keeps_setting, declares_kept, declares_slanted}
+use Rattle.vcm_kept.specs.Places.{has_place, asks_place, motion_asks, length_asks, point_asks, approach_asks, asks_point, moves, homes, keeps, loses_track, reaches_target, steps_by, halt_asks, approaches, halts, slants, keeps_setting, declares_kept, declares_slanted}
 use Rattle.vcm_kept.specs.declared.reached.OpenBlock.{OpenBlock}
 use Rattle.vcm_templates.specs.declared.carried.Carried.{Carried}
 use Rattle.vcm_templates.specs.declared.carried.Carried.TheVariants as carried
@@ -735,6 +735,23 @@ abbrev pub approaches_feature : Bool → ℕ → List Variable → Coordinates �
 approaches_feature steps line vs p None = untried_point line
 approaches_feature steps line vs p (Some i) = approaches steps line vs (both approach_asks (is_nominal i)) p (direction_in i)
 
+-- a point that is approached alone, along this direction, or along that of the feature that is measured where none is written
+abbrev pub halts_along : Bool → ℕ → List Variable → Coordinates → Option Axis → Option ℕ → List Guarded
+halts_along steps line vs p (Some d) i = halts steps line vs halt_asks p (direction_of d)
+halts_along steps line vs p None None = untried_point line
+halts_along steps line vs p None (Some i) = halts steps line vs (both halt_asks (is_nominal i)) p (direction_in i)
+
+-- a point where the way back is known; elsewhere it is approached alone
+unfoldable pub touches_where : Bool → ℕ → ℕ → List Variable → List (List ℕ) → Coordinates → Option Axis → List ℕ → List Guarded
+touches_where steps line e vs fs p d l =
+    stands line 0 (form.Test (is_current carried.Retract))
+    ∷ (touches steps line e vs fs p d (Some l) ++ elsewhere line ∷ (halts_along steps line vs p d (index_of fs l) ++ ends line ∷ []))
+
+-- PTMEAS, in a text where the way back of a point may not be known, or always is where the rest is
+abbrev pub touches_or : (halting steps : Bool) → ℕ → ℕ → List Variable → List (List ℕ) → Coordinates → Option Axis → Option (List ℕ) → List Guarded
+touches_or true steps line e vs fs p d (Some l) = touches_where steps line e vs fs p d l
+touches_or halting steps line e vs fs p d l = touches steps line e vs fs p d l
+
 -- a slanted point, or one along the direction of its feature, which is said by its three coordinates alone
 abbrev pub slants_or : Text → ℕ → List Variable → Option ℕ → List Offset → List Guarded
 slants_or text line vs i (x ∷ y ∷ z ∷ []) =
@@ -769,7 +786,7 @@ guards text r line e (form.Choose c) = chooses text.several line e (next_depth r
 guards text r line e form.ChooseEnd = chooses_end line e (choice_end text.several) (first_block r.blocks) r.assigned
 guards text r line e (form.Feature l p d) = features_or text r line e l p d (spot_named l)
 guards text r line e (form.Measure l) = measures line
-guards text r line e (form.Touch p d) = touches text.steps line e r.variables r.features p d r.measuring
+guards text r line e (form.Touch p d) = touches_or text.halts text.steps line e r.variables r.features p d r.measuring
 guards text r line e form.MeasureEnd = measured text.datums line r.features r.measuring
 guards text r line e (form.Configure which value) = configures text.slants line e r.variables which value
 guards text r line e (form.Shift l os) = shifts_or text r line e l os (is_same_name slanted_name l)
@@ -978,6 +995,45 @@ is_pointed f = false
 abbrev pub is_pointed_placed : Placed → Bool
 is_pointed_placed p = is_pointed p.statement.form
 
+-- whether a statement is a point
+abbrev pub is_touch : Form → Bool
+is_touch (form.Touch p d) = true
+is_touch f = false
+
+-- whether a value is a number
+abbrev pub is_literal : Option Term → Bool
+is_literal (Some (Number n)) = true
+is_literal t = false
+
+-- whether a statement sets the way back, by a number
+abbrev pub sets_way_back : Form → Bool
+sets_way_back (form.Configure settings.Retract e) = is_literal (leaf_in e)
+sets_way_back f = false
+
+-- whether an event is about the way back
+abbrev pub is_way_back : Option Event → Bool
+is_way_back (Some events.Retract) = true
+is_way_back e = false
+
+-- whether a statement may lose it: by such an event, or by a value that isn't a number
+abbrev pub may_lose_way_back : Form → Bool
+may_lose_way_back (form.Configure settings.Retract e) = not (is_literal (leaf_in e))
+may_lose_way_back (form.Assignment t value) = is_way_back (event_named t.name)
+may_lose_way_back f = false
+
+-- the same of a statement in its expansion
+abbrev pub may_lose_placed : Placed → Bool
+may_lose_placed p = may_lose_way_back p.statement.form
+
+-- whether a point stands above the first statement that sets the way back
+abbrev pub is_unled : List Placed → Bool
+is_unled [] = false
+is_unled (p ∷ ps) = is_touch p.statement.form || (not (sets_way_back p.statement.form) && is_unled ps)
+
+-- whether the way back of a point may not be known
+abbrev pub may_halt : List Placed → Bool
+may_halt ps = is_unled ps || list_any may_lose_placed ps
+
 -- whether an event is a polar place, or angles in another unit than decimal degrees
 abbrev pub is_polar_event : Option Event → Option Term → Bool
 is_polar_event (Some events.Polar) value = true
@@ -1038,8 +1094,8 @@ abbrev pub is_storing_placed : Placed → Bool
 is_storing_placed p = is_storing p.statement.form
 
 -- what holds of a text: whether it has jumps, whether the machine's frame has a name of its own, whether it has places that are kept or steps, a FROM, steps, points that
--- are approached and left, some of them along the directions of their features, polar places or angles in another unit, datums, frames that are kept elsewhere, a CASE with
--- several values, and whether values may be cut off
+-- are approached and left, some of them along the directions of their features, points whose way back may not be known, polar places or angles in another unit, datums,
+-- frames that are kept elsewhere, a CASE with several values, and whether values may be cut off
 abbrev pub text_of : List Placed → Text
 text_of ps = record {
   jumps = list_any is_jump_placed ps;
@@ -1047,8 +1103,9 @@ text_of ps = record {
   spots = list_any is_spotted ps;
   from = list_any is_from ps;
   steps = list_any is_step ps;
-  slants = list_any is_slanted_placed ps;
-  pointed = list_any is_pointed_placed ps;
+  slants = may_halt ps || list_any is_slanted_placed ps;
+  pointed = may_halt ps || list_any is_pointed_placed ps;
+  halts = may_halt ps;
   polar = list_any is_polar_placed ps;
   datums = list_any is_dated_placed ps;
   saving = list_any is_storing_placed ps;

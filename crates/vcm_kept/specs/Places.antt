@@ -64,6 +64,11 @@ abbrev pub within : Bool → Source → Source
 within true e = both e (are_current (carried.Scanning ∷ carried.OwnPoints ∷ carried.Clearance ∷ []))
 within false e = e
 
+-- and for one that is approached alone, which has no way back either
+unfoldable pub halt_asks : Source
+halt_asks = both motion_asks (are_current
+    (carried.Scanning ∷ carried.OwnPoints ∷ carried.Approach ∷ carried.Clearance ∷ carried.Compensation ∷ carried.Qualification ∷ []))
+
 -- what has to be known of a way to a place: this, and the variables of the place
 unfoldable pub asks_point : ℕ → List Variable → Source → Coordinates → List Guarded
 asks_point line vs known p = asks line known ∷ (asks_place line vs p ++ goes line)
@@ -185,17 +190,22 @@ added e (Some f) = joined Add e f
 abbrev pub before : Length → Coordinates → Coordinates → Option Coordinates
 before l p d = step_at (added p.x (ahead l d.x)) (added p.y (ahead l d.y)) (added p.z (ahead l d.z))
 
--- behind a point that is approached and left: it is no measured one
-unfoldable pub left_behind : Bool → ℕ → List Guarded
-left_behind steps line =
+-- 1 where the probe stands where the machine's does, else 0
+abbrev pub stands_there : Bool → ℤ
+stands_there true = pos 1
+stands_there false = pos 0
+
+-- behind a point that is approached, and left where the probe's place is known: it is no measured one
+unfoldable pub left_behind : Bool → ℕ → Bool → List Guarded
+left_behind steps line there =
     raise line carried.Points (pos 1) ∷ set line carried.Single (Plain (number (pos 0)))
-    ∷ (loses_track steps line ++ remarks line 0 (form.Assignment (carried_target carried.Place) (Plain (number (pos 1)))) Approached
+    ∷ (loses_track steps line ++ remarks line 0 (form.Assignment (carried_target carried.Place) (Plain (number (stands_there there)))) Approached
     ∷ elsewhere line ∷ (untried_point line ++ ends line ∷ []))
 
 -- a point that is approached from one place and left to another
 unfoldable pub approaches_known : Bool → ℕ → List Variable → Source → (p a r : Coordinates) → List Guarded
 approaches_known steps line vs known p a r =
-    asks_point line vs known p ++ stands line 0 (form.Move a) ∷ stands line 0 (form.Move r) ∷ left_behind steps line
+    asks_point line vs known p ++ stands line 0 (form.Move a) ∷ stands line 0 (form.Move r) ∷ left_behind steps line true
 
 -- the same, if there are such places
 abbrev pub approaches_by : Bool → ℕ → List Variable → Source → Coordinates → (a r : Option Coordinates) → List Guarded
@@ -206,6 +216,19 @@ approaches_by steps line vs known p a r = untried_point line
 abbrev pub approaches : Bool → ℕ → List Variable → Source → (p d : Coordinates) → List Guarded
 approaches steps line vs known p d =
     if has_place vs p then approaches_by steps line vs known p (before lengths.Approach p d) (before lengths.Retract p d) else untried_point line
+
+-- a point that is approached at a place, and from there the machine goes back by a way that isn't known
+unfoldable pub halts_known : Bool → ℕ → List Variable → Source → (p a : Coordinates) → List Guarded
+halts_known steps line vs known p a = asks_point line vs known p ++ stands line 0 (form.Move a) ∷ left_behind steps line false
+
+-- the same, if there is such a place
+abbrev pub halts_by : Bool → ℕ → List Variable → Source → Coordinates → Option Coordinates → List Guarded
+halts_by steps line vs known p (Some a) = halts_known steps line vs known p a
+halts_by steps line vs known p None = untried_point line
+
+-- a point that is approached alone, with its direction
+abbrev pub halts : Bool → ℕ → List Variable → Source → (p d : Coordinates) → List Guarded
+halts steps line vs known p d = if has_place vs p then halts_by steps line vs known p (before lengths.Approach p d) else untried_point line
 
 -- a slanted point, by its three coordinates and the three components of its direction; what has one length alone says how wide the tip is
 abbrev pub slants : (slanted steps : Bool) → ℕ → List Variable → List Offset → List Guarded

@@ -37,14 +37,14 @@ use Rattle.vcm_templates.specs.Exact.{folded}
 use Rattle.vcm_kept.specs.declared.text.Text.{Text}
 use Rattle.vcm_kept.specs.Effects.{no_effects, other_tip}
 use Rattle.vcm_kept.specs.Named.{keeps_stored}
-use Rattle.vcm_remarks.specs.declared.remark.Remark.TheVariants.{AnotherTip}
+use Rattle.vcm_remarks.specs.declared.remark.Remark.TheVariants.{AnotherTip, Approached}
 use Rattle.vcm_templates.specs.declared.carried.TheConstants.{FEATURES_STEP}
-use Rattle.vcm_kept.specs.Places.{asks_place, motion_asks, length_asks, point_asks, asks_point, keeps_here, keeps_known, goes_to, moves_known, home_asks, goes_home, forgets}
+use Rattle.vcm_kept.specs.Places.{asks_place, motion_asks, length_asks, point_asks, asks_point, halt_asks, left_behind, halts_known, halts, keeps_here, keeps_known, goes_to, moves_known, home_asks, goes_home, forgets}
 use Rattle.vcm_kept.specs.Exactly.{exact_form}
 use Rattle.vcm_kept.specs.Choices.{chosen_by, opens_case, adds_value, begins_case}
 use Rattle.vcm_kept.specs.Datums.{origin_asks, goes_along, asks_origin, keeps_origin, origin_lost, frame_asks}
 use Rattle.vcm_kept.specs.Late.{Made}
-use Rattle.vcm_kept.specs.Guarding.{Reached, lates, reaches_form, begun, block, text_of, guards, know_variable, lose_variable, assigned_where, selects, unselected, point_goes, own_point, direction_asks, touches_declared, touches_itself, features_at, nominal_where, setting_where, made_where, recalled_where, machine_name, recalls_machine, unreported, is_measured, obtains_here, measures, closes, unknown_asks, asks_rounds}
+use Rattle.vcm_kept.specs.Guarding.{Reached, lates, reaches_form, begun, block, text_of, guards, know_variable, lose_variable, assigned_where, selects, unselected, point_goes, own_point, direction_asks, touches_declared, touches_itself, touches, touches_where, direction_of, features_at, nominal_where, setting_where, made_where, recalled_where, machine_name, recalls_machine, unreported, is_measured, obtains_here, measures, closes, unknown_asks, asks_rounds}
 
 -- ---- what stands above
 
@@ -166,6 +166,20 @@ touch_itself = refl
 -- a point outside of measurements
 pub touch_untried : puts (form.Touch place (Some PlusZ)) ≡ untried_point 9
 touch_untried = refl
+
+-- a point of a text in which the way back may not be known: where it isn't, the point is approached alone
+pub touch_unled : guards (record bare { halts = true }) (record above { within = true; measuring = Some (codes "A") }) 9 0 (form.Touch place (Some PlusZ))
+    ≡ stands 9 0 (form.Test (is_current carried.Retract)) ∷ (touches false 9 0 above.variables above.features place (Some PlusZ) (Some (codes "A"))
+    ++ elsewhere 9 ∷ (halts false 9 above.variables halt_asks place (direction_of PlusZ) ++ ends 9 ∷ []))
+unfolding touches_where
+touch_unled = refl
+
+-- a point that is approached at a place: the probe stands nowhere that is known behind it
+pub halted : halts_known false 9 above.variables halt_asks place place
+    ≡ asks 9 halt_asks ∷ (place_asked ++ goes 9 ++ stands 9 0 (form.Move place) ∷ raise 9 carried.Points (pos 1) ∷ set 9 carried.Single (Plain (number (pos 0)))
+    ∷ remarks 9 0 (form.Assignment (carried_target carried.Place) (Plain (number (pos 0)))) Approached ∷ elsewhere 9 ∷ (untried_point 9 ++ ends 9 ∷ []))
+unfolding halts_known left_behind asks_point asks_place asks_all asks_variables asks_within
+halted = refl
 
 -- a slanted point with a place that isn't known
 pub slant_untried : guards (record bare { slants = true }) above 9 0 (slanted unknown_place (pos 600) (pos 0) (pos 800)) ≡ untried_point 9

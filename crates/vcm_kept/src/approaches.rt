@@ -2,21 +2,26 @@
 
 ghost use Rattle.std.specs.Prelude.{◌≡◌, ◌++◌, ◌∷◌, [], map, pos, OnOk, IfOk, List};
 ghost use Rattle.vcm_forms.specs.declared.statement.Form.TheVariants as form;
-ghost use Rattle.vcm_templates.specs.Templates.{stands, elsewhere, ends, untried_point};
-ghost use Rattle.vcm_templates.specs.Carried.{carried_name};
-ghost use Rattle.vcm_templates.specs.Expressions.{both as both_of};
-ghost use Rattle.vcm_kept.specs.Guarding.{is_nominal, direction_in, approaches_feature, slants_or};
-ghost use Rattle.vcm_kept.specs.Places.{kept_frames, has_place, approach_asks, along, ahead, added, before, left_behind, approaches_known, approaches_by, approaches, slants, keeps_setting, length_names, declares_kept, declares_slanted};
+ghost use Rattle.vcm_templates.specs.Templates.{stands, remarks, raise as raises, set as sets, elsewhere, ends, untried_point};
+ghost use Rattle.vcm_templates.specs.declared.carried.Carried.TheVariants as carried;
+ghost use Rattle.vcm_remarks.specs.declared.remark.Remark.TheVariants.{Approached};
+ghost use Rattle.vcm_expr.specs.Source.{Plain};
+ghost use Rattle.vcm_templates.specs.Carried.{carried_name, carried_target};
+ghost use Rattle.vcm_templates.specs.Expressions.{number as number_of, both as both_of};
+ghost use Rattle.vcm_kept.specs.Guarding.{is_nominal, direction_of, direction_in, approaches_feature, halts_along, slants_or};
+ghost use Rattle.vcm_kept.specs.Places.{stands_there, loses_track, kept_frames, has_place, approach_asks, halt_asks, along, ahead, added, before, left_behind, approaches_known, approaches_by, approaches, halts_known, halts_by, halts, slants, keeps_setting, length_names, declares_kept, declares_slanted};
 
-use crate::places::{approach_asks, ask_point, copied, has_place, lose_track, set_length, step_at};
-use crate::points::is_nominal;
+use crate::places::{
+    approach_asks, ask_point, copied, halt_asks, has_place, lose_track, set_length, step_at,
+};
+use crate::points::{direction_of, is_nominal};
 use crate::text::Text;
 use std::alloc::Global;
 use vcm_events::{join, pair};
 use vcm_expr::{BinaryOp, Expr, Names};
 use vcm_forms::{Coordinates, Form, Offset};
 use vcm_items::VariableName;
-use vcm_num::{Items, Kind, NoMemory};
+use vcm_num::{Axis, Items, Kind, NoMemory};
 use vcm_remarks::Remark;
 use vcm_spec::Setting;
 use vcm_templates::{
@@ -68,24 +73,55 @@ fn before(
     Ok(step_at(x, y, z))
 }
 
-// Behind a point that is approached and left.
+// Whether the probe stands where the machine's does, behind a point that is approached.
+fn leave_place(out: &mut Vec<Guarded>, line: u32, there: bool) -> Result<(), NoMemory>
+    ensures { OnOk result (out.new.items ≡ out.old.items ++ remarks line 0 (form.Assignment (carried_target carried.Place) (Plain (number_of (stands_there there)))) Approached ∷ []) }
+{
+    let value = if there { number(1) } else { number(0) };
+    let stands = Form::Assignment(Carried::Place.target(), Expr::leaf(value));
+    remark(out, line, 0, stands, Remark::Approached)
+}
+
+// A point is counted that is no measured one.
+fn count_left(alloc: Global, out: &mut Vec<Guarded>, line: u32) -> Result<(), NoMemory>
+    ensures { OnOk result (out.new.items ≡ out.old.items ++ raises line carried.Points (pos 1) ∷ sets line carried.Single (Plain (number_of (pos 0))) ∷ []) }
+{
+    raise(alloc, out, line, Carried::Points, 1)?;
+    set_number(out, line, Carried::Single, 0)
+}
+
+// Elsewhere it isn't tried.
+fn end_point(alloc: Global, out: &mut Vec<Guarded>, line: u32) -> Result<(), NoMemory>
+    ensures { OnOk result (out.new.items ≡ out.old.items ++ elsewhere line ∷ (untried_point line ++ ends line ∷ [])) }
+{
+    elsewhere(out, line)?;
+    untried_point(alloc, out, line)?;
+    end(out, line)
+}
+
+// It is told, and elsewhere it isn't tried.
+fn end_left(alloc: Global, out: &mut Vec<Guarded>, line: u32, there: bool) -> Result<(), NoMemory>
+    ensures { OnOk result (out.new.items ≡ out.old.items
+        ++ remarks line 0 (form.Assignment (carried_target carried.Place) (Plain (number_of (stands_there there)))) Approached ∷ elsewhere line ∷ (untried_point line ++ ends line ∷ [])) }
+{
+    leave_place(out, line, there)?;
+    end_point(alloc, out, line)
+}
+
+// Behind a point that is approached, and left where the probe's place is known.
 #[tactic(auto, unfolding(crate::specs::Places::left_behind))]
 fn leave_behind(
     alloc: Global,
     out: &mut Vec<Guarded>,
     steps: bool,
     line: u32,
+    there: bool,
 ) -> Result<(), NoMemory>
-    ensures { OnOk result (out.new.items ≡ out.old.items ++ left_behind steps line) }
+    ensures { OnOk result (out.new.items ≡ out.old.items ++ left_behind steps line there) }
 {
-    raise(alloc, out, line, Carried::Points, 1)?;
-    set_number(out, line, Carried::Single, 0)?;
+    count_left(alloc, out, line)?;
     lose_track(out, steps, line)?;
-    let stands = Form::Assignment(Carried::Place.target(), Expr::leaf(number(1)));
-    remark(out, line, 0, stands, Remark::Approached)?;
-    elsewhere(out, line)?;
-    untried_point(alloc, out, line)?;
-    end(out, line)
+    end_left(alloc, out, line, there)
 }
 
 // A point that is approached from one place and left to another.
@@ -106,7 +142,7 @@ fn approach_known(
     ask_point(alloc, out, line, names, asked, place)?;
     stand(out, line, 0, Form::Move(first))?;
     stand(out, line, 0, Form::Move(second))?;
-    leave_behind(alloc, out, steps, line)
+    leave_behind(alloc, out, steps, line, true)
 }
 
 // The same, if there are such places.
@@ -150,6 +186,125 @@ fn approach_where(
     let first = before(alloc, Length::Approach, place, direction)?;
     let second = before(alloc, Length::Retract, place, direction)?;
     approach_by(alloc, out, steps, line, names, asked, place, first, second)
+}
+
+// A point that is approached at a place.
+#[tactic(auto, unfolding(crate::specs::Places::halts_known))]
+fn halt_known(
+    alloc: Global,
+    out: &mut Vec<Guarded>,
+    steps: bool,
+    line: u32,
+    names: &Names,
+    asked: Expr,
+    place: &Coordinates,
+    first: Coordinates,
+) -> Result<(), NoMemory>
+    ensures { OnOk result (out.new.items ≡ out.old.items ++ halts_known steps line names.now asked place.now first) }
+{
+    ask_point(alloc, out, line, names, asked, place)?;
+    stand(out, line, 0, Form::Move(first))?;
+    leave_behind(alloc, out, steps, line, false)
+}
+
+// The same, if there is such a place.
+fn halt_by(
+    alloc: Global,
+    out: &mut Vec<Guarded>,
+    steps: bool,
+    line: u32,
+    names: &Names,
+    asked: Expr,
+    place: &Coordinates,
+    first: Option<Coordinates>,
+) -> Result<(), NoMemory>
+    ensures { OnOk result (out.new.items ≡ out.old.items ++ halts_by steps line names.now asked place.now first) }
+{
+    match first {
+        Some(first) => halt_known(alloc, out, steps, line, names, asked, place, first),
+        None => untried_point(alloc, out, line),
+    }
+}
+
+// A point that is approached alone, with its direction.
+fn halt(
+    alloc: Global,
+    out: &mut Vec<Guarded>,
+    steps: bool,
+    line: u32,
+    names: &Names,
+    asked: Expr,
+    place: &Coordinates,
+    direction: &Coordinates,
+) -> Result<(), NoMemory>
+    ensures { OnOk result (out.new.items ≡ out.old.items ++ halts steps line names.now asked place.now direction.now) }
+{
+    if !has_place(alloc, names, place)? {
+        return untried_point(alloc, out, line);
+    }
+    let first = before(alloc, Length::Approach, place, direction)?;
+    halt_by(alloc, out, steps, line, names, asked, place, first)
+}
+
+// A point that is approached alone, along this direction.
+fn halt_given(
+    alloc: Global,
+    out: &mut Vec<Guarded>,
+    steps: bool,
+    line: u32,
+    names: &Names,
+    place: &Coordinates,
+    axis: Axis,
+) -> Result<(), NoMemory>
+    ensures { OnOk result (out.new.items ≡ out.old.items ++ halts steps line names.now halt_asks place.now (direction_of axis)) }
+{
+    let asked = halt_asks(alloc)?;
+    let direction = direction_of(alloc, axis)?;
+    halt(alloc, out, steps, line, names, asked, place, &direction)
+}
+
+// What has to be known for a point that is approached alone, along the direction of the feature at an index.
+fn declared_asks(alloc: Global, index: u16) -> Result<Expr, NoMemory>
+    ensures { IfOk result (λ e. e ≡ both_of halt_asks (is_nominal index)) }
+{
+    both(alloc, &halt_asks(alloc)?, &is_nominal(alloc, index)?)
+}
+
+// A point that is approached alone, along the direction of the feature at an index.
+fn halt_declared(
+    alloc: Global,
+    out: &mut Vec<Guarded>,
+    steps: bool,
+    line: u32,
+    names: &Names,
+    place: &Coordinates,
+    index: u16,
+) -> Result<(), NoMemory>
+    ensures { OnOk result (out.new.items ≡ out.old.items ++ halts steps line names.now (both_of halt_asks (is_nominal index)) place.now (direction_in index)) }
+{
+    let asked = declared_asks(alloc, index)?;
+    let direction = direction_in(index);
+    halt(alloc, out, steps, line, names, asked, place, &direction)
+}
+
+/// A point that is approached alone, along this direction, or along that of the feature that is measured where none is written.
+pub(crate) fn halt_along(
+    alloc: Global,
+    out: &mut Vec<Guarded>,
+    steps: bool,
+    line: u32,
+    names: &Names,
+    place: &Coordinates,
+    given: Option<Axis>,
+    index: Option<u16>,
+) -> Result<(), NoMemory>
+    ensures { OnOk result (out.new.items ≡ out.old.items ++ halts_along steps line names.now place.now given index) }
+{
+    match (given, index) {
+        (Some(axis), _) => halt_given(alloc, out, steps, line, names, place, axis),
+        (None, Some(index)) => halt_declared(alloc, out, steps, line, names, place, index),
+        (None, None) => untried_point(alloc, out, line),
+    }
 }
 
 // Three lengths as a place.

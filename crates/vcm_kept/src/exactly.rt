@@ -10,7 +10,7 @@ ghost use Rattle.vcm_kept.specs.Exactly.{is_product, is_pointed, may_be_cut, is_
 use std::alloc::Global;
 use vcm_events::{Spot, is_origin, unknown};
 use vcm_expr::{BinaryOp, Expr, Names, Piece, Want};
-use vcm_forms::{Coordinates, Form, Offset, Rounds, Target};
+use vcm_forms::{Coordinates, Form, Offset, Rounds, Statement, Target};
 use vcm_macro::Placed;
 use vcm_num::{Items, Kind, Literal, NoMemory};
 use vcm_templates::{carries_bounds, exact_at, is_quotient};
@@ -109,6 +109,20 @@ fn is_cut(form: &Form) -> bool
         Form::Shift(_, offsets) => has_cut_shift(offsets.as_slice()),
         _ => false,
     }
+}
+
+// The same of a statement.
+fn is_cut_statement(statement: &Statement) -> bool
+    ensures { result ≡ is_cut statement.now.form }
+{
+    is_cut(&statement.form)
+}
+
+/// Whether one of the statements has an expression whose value may be cut off.
+pub fn may_cut(all: &[Statement]) -> bool
+    ensures { result ≡ list_any (λ s. is_cut s.form) all.now }
+{
+    all.iter().any(|statement| is_cut_statement(statement))
 }
 
 // Whether one of a statement in its expansion may be.

@@ -11,7 +11,7 @@ ghost use Rattle.vcm_expr.specs.Source.{leaf_in};
 ghost use Rattle.vcm_events.specs.Events.{event_named};
 ghost use Rattle.vcm_events.specs.Spots.{spot_named, slanted_name};
 ghost use Rattle.vcm_kept.specs.Effects.{listed_index};
-ghost use Rattle.vcm_kept.specs.Guarding.{spots_by, features_or, shifts_or, reaches_spot, reaches_feature, reaches_shift, spot_in, is_spotted, is_from, is_step, is_slanted_placed, has_several, is_pointed_placed, are_three, is_polar_event, is_polar_placed, opens_polar, around, is_several_placed, first_block, doubted, branched, left, measuring_from, is_aimed, late_shift, late_place, late_touch, late_end, late_value, late_report, lates, guards_late, is_datum_event, is_dated_placed, is_storing_event, is_storing_placed, block, opened, noted, reaches_form, begun, guards, reaches, guards_from, is_jump_placed, names_machine_placed, first_names, last_names, text_of, opens, declares_carried, keeps_machine, opening, declares_first, opens_first, guarded, measures, measured, first_variables};
+ghost use Rattle.vcm_kept.specs.Guarding.{spots_by, features_or, shifts_or, reaches_spot, reaches_feature, reaches_shift, spot_in, is_spotted, is_from, is_step, is_slanted_placed, has_several, is_pointed_placed, are_three, is_touch, is_literal, sets_way_back, is_way_back, may_lose_placed, is_unled, may_halt, is_polar_event, is_polar_placed, opens_polar, around, is_several_placed, first_block, doubted, branched, left, measuring_from, is_aimed, late_shift, late_place, late_touch, late_end, late_value, late_report, lates, guards_late, is_datum_event, is_dated_placed, is_storing_event, is_storing_placed, block, opened, noted, reaches_form, begun, guards, reaches, guards_from, is_jump_placed, names_machine_placed, first_names, last_names, text_of, opens, declares_carried, keeps_machine, opening, declares_first, opens_first, guarded, measures, measured, first_variables};
 ghost use Rattle.vcm_kept.specs.inner.Making.{made_of};
 ghost use Rattle.vcm_kept.specs.Choices.{next_depth};
 ghost use Rattle.vcm_kept.specs.Exactly.{exact_form, is_cut_placed};
@@ -31,7 +31,7 @@ use crate::exactly::{exact_form, has_cut};
 use crate::frames::{configure, makes_frame, originated, recall, rotate, shift};
 use crate::late::{Made, is_late, is_late_variable, late_feature, late_frame, late_variable};
 use crate::places::{go_home, go_to, has_place, keep, step_by};
-use crate::points::{declare, end_measure, measure, measured_index, touch};
+use crate::points::{declare, end_measure, measure, measured_index, touch_or};
 use crate::reached::{OpenBlock, begin_block, note_effects};
 use crate::text::Text;
 use crate::values::{leave_out, query, report};
@@ -46,7 +46,7 @@ use vcm_macro::Placed;
 use vcm_num::{Axis, Items, Kind, Literal, NoMemory, is};
 use vcm_program::Titles;
 use vcm_remarks::Cause;
-use vcm_spec::FrameAxis;
+use vcm_spec::{FrameAxis, Setting};
 use vcm_templates::{Carried, Guarded, IMPLICIT, Item, Kept, lose, set_number, stand};
 
 /// What statements leave behind them in writing.
@@ -559,9 +559,10 @@ fn guard(
         Form::Measure(label) => begin_measure(out, line, above, label),
         Form::Touch(place, given) => {
             let (names, features) = (&above.names, &above.features);
-            touch(
+            touch_or(
                 alloc,
                 out,
+                text.halts,
                 text.steps,
                 line,
                 e,
@@ -863,6 +864,77 @@ fn are_three(offsets: &[Offset]) -> bool
     offsets.len() == 3
 }
 
+// Whether a statement is a point.
+fn is_touch(form: &Form) -> bool
+    ensures { result ≡ is_touch form.now }
+{
+    matches!(form, Form::Touch(_, _))
+}
+
+// Whether a value is a number.
+fn is_literal(value: &Expr) -> bool
+    ensures { result ≡ is_literal (leaf_in value.now) }
+{
+    matches!(value.as_leaf(), Some(Term::Number(_)))
+}
+
+// Whether a statement sets the way back, by a number.
+fn sets_way_back(form: &Form) -> bool
+    ensures { result ≡ sets_way_back form.now }
+{
+    match form {
+        Form::Configure(Setting::Retract, value) => is_literal(value),
+        _ => false,
+    }
+}
+
+// Whether an event is about the way back.
+fn is_way_back(name: &[u8]) -> bool
+    ensures { result ≡ is_way_back (event_named name.now) }
+{
+    matches!(Event::named(name), Some(Event::Retract))
+}
+
+// Whether a statement may lose the way back.
+fn may_lose_way_back(placed: &Placed) -> bool
+    ensures { result ≡ may_lose_placed placed.now }
+{
+    match &placed.statement.form {
+        Form::Configure(Setting::Retract, value) => !is_literal(value),
+        Form::Assignment(target, _) => is_way_back(target.name.as_bytes()),
+        _ => false,
+    }
+}
+
+// Whether one of the statements may.
+fn has_loss_of_way_back(all: &[Placed]) -> bool
+    ensures { result ≡ list_any may_lose_placed all.now }
+{
+    all.iter().any(|placed| may_lose_way_back(placed))
+}
+
+// Whether a point stands above the first statement that sets the way back.
+fn is_unled(all: &[Placed]) -> bool
+    ensures { result ≡ is_unled all.now }
+{
+    for placed in all {
+        if is_touch(&placed.statement.form) {
+            return true;
+        }
+        if sets_way_back(&placed.statement.form) {
+            return false;
+        }
+    }
+    false
+}
+
+// Whether the way back of a point may not be known.
+fn may_halt(all: &[Placed]) -> bool
+    ensures { result ≡ may_halt all.now }
+{
+    is_unled(all) || has_loss_of_way_back(all)
+}
+
 // Whether an event is a polar place, or angles in another unit than decimal degrees.
 fn is_polar_event(name: &[u8], value: &Expr) -> bool
     ensures { result ≡ is_polar_event (event_named name.now) (leaf_in value.now) }
@@ -996,14 +1068,16 @@ fn has_several_values(all: &[Placed]) -> bool
 fn text_of(all: &[Placed]) -> Text
     ensures { result ≡ text_of all.now }
 {
+    let halts = may_halt(all);
     Text {
         jumps: has_jumps(all),
         machine: !has_machine(all),
         spots: has_spots(all),
         from: has_from(all),
         steps: has_steps(all),
-        slants: has_slants(all),
-        pointed: has_pointed(all),
+        slants: halts || has_slants(all),
+        pointed: halts || has_pointed(all),
+        halts,
         polar: has_polar(all),
         datums: has_datums(all),
         saving: has_storing(all),

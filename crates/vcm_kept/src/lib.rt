@@ -22,6 +22,7 @@ mod values;
 mod variables;
 
 pub use effects::Effects;
+pub use exactly::may_cut;
 pub use put::{Put, put_text};
 pub use reached::OpenBlock;
 pub use text::Text;

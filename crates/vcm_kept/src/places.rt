@@ -7,7 +7,7 @@ ghost use Rattle.vcm_templates.specs.Carried.{length_term, frame_of};
 ghost use Rattle.vcm_templates.specs.Expressions.{number, both};
 ghost use Rattle.vcm_templates.specs.Templates.{stands, set, elsewhere, ends};
 ghost use Rattle.vcm_forms.specs.declared.statement.Form.TheVariants as form;
-ghost use Rattle.vcm_kept.specs.Places.{has_place, asks_place, motion_asks, length_asks, point_asks, approach_asks, aimed, asks_point, set_length, forgets, keeps_here, keeps_known, keeps, tracks, loses_track, goes_to, moves_known, moves, home_asks, goes_home, homes, reaches_target, within, step_at, step_place, step_asks, steps_known, steps_to, steps_by};
+ghost use Rattle.vcm_kept.specs.Places.{has_place, asks_place, motion_asks, length_asks, point_asks, approach_asks, halt_asks, aimed, asks_point, set_length, forgets, keeps_here, keeps_known, keeps, tracks, loses_track, goes_to, moves_known, moves, home_asks, goes_home, homes, reaches_target, within, step_at, step_place, step_asks, steps_known, steps_to, steps_by};
 
 use std::alloc::Global;
 use vcm_events::{join, pair};
@@ -88,6 +88,23 @@ pub(crate) fn approach_asks(alloc: Global) -> Result<Expr, NoMemory>
         Carried::OwnPoints,
         Carried::Approach,
         Carried::Retract,
+        Carried::Clearance,
+        Carried::Compensation,
+        Carried::Qualification,
+    ];
+    let state = are_current(alloc, &all)?;
+    both(alloc, &motion_asks(alloc)?, &state)
+}
+
+/// And for one that is approached alone, which has no way back either.
+#[tactic(auto, unfolding(crate::specs::Places::halt_asks))]
+pub(crate) fn halt_asks(alloc: Global) -> Result<Expr, NoMemory>
+    ensures { IfOk result (λ e. e ≡ halt_asks) }
+{
+    let all = [
+        Carried::Scanning,
+        Carried::OwnPoints,
+        Carried::Approach,
         Carried::Clearance,
         Carried::Compensation,
         Carried::Qualification,

@@ -7,11 +7,12 @@ ghost use Rattle.vcm_program.specs.Titles.{index_of, entered, with_name};
 ghost use Rattle.vcm_forms.specs.declared.statement.Form.TheVariants as form;
 ghost use Rattle.vcm_templates.specs.declared.carried.Carried.TheVariants as carried;
 ghost use Rattle.vcm_templates.specs.declared.carried.Item.TheVariants as items;
-ghost use Rattle.vcm_templates.specs.Expressions.{number, both, knows_frame, are_current, in_frame};
+ghost use Rattle.vcm_templates.specs.Expressions.{number, both, knows_frame, is_current, are_current, in_frame};
 ghost use Rattle.vcm_templates.specs.Templates.{stands, elsewhere, ends, set_item};
 ghost use Rattle.vcm_kept.specs.Places.{has_place, loses_track};
-ghost use Rattle.vcm_kept.specs.Guarding.{is_declared, is_nominal, is_measured, point, direction_asks, point_goes, own_point, touches_declared, touches_itself, touches_at, touches, measures, touched_once, touched_here, keeps_point, measured_index, leaves_points, counts_points, measured, nominal_where, with_known, direction_of, sets_direction, keeps_direction, declares_direction, features_at, declares_feature, feature_gone, features_in, features};
+ghost use Rattle.vcm_kept.specs.Guarding.{is_declared, is_nominal, is_measured, point, direction_asks, point_goes, own_point, touches_declared, touches_itself, touches_at, touches, halts_along, touches_where, touches_or, measures, touched_once, touched_here, keeps_point, measured_index, leaves_points, counts_points, measured, nominal_where, with_known, direction_of, sets_direction, keeps_direction, declares_direction, features_at, declares_feature, feature_gone, features_in, features};
 
+use crate::approaches::halt_along;
 use crate::datums::{declare_bound, unbind};
 use crate::places::{
     ask_place, ask_point, has_place, length_asks, lose_track, place_again, point_asks,
@@ -24,8 +25,8 @@ use vcm_items::Name;
 use vcm_num::{Axis, MOST_NAMES, NoMemory};
 use vcm_program::Titles;
 use vcm_templates::{
-    Carried, Guarded, Item, ask, both, declare_item, elsewhere, end, in_frame, know, lose_item,
-    number, same_as, set, set_item, set_number, stand, touched, untried, untried_point,
+    Carried, Guarded, Item, ask, both, declare_item, elsewhere, end, in_frame, is_current, know,
+    lose_item, number, same_as, set, set_item, set_number, stand, touched, untried, untried_point,
     where_known,
 };
 
@@ -195,8 +196,8 @@ fn touch_of(
     }
 }
 
-/// PTMEAS.
-pub(crate) fn touch(
+// A point of a measurement.
+fn touch(
     alloc: Global,
     out: &mut Vec<Guarded>,
     steps: bool,
@@ -211,16 +212,111 @@ pub(crate) fn touch(
     ensures { OnOk result (out.new.items ≡ out.old.items ++ touches steps line expansion names.now declared.now place given measuring.now) }
 {
     match measuring {
-        Some(label) => {
-            if has_place(alloc, names, &place)? {
-                touch_of(
-                    alloc, out, steps, line, expansion, names, declared, label, place, given,
-                )
-            } else {
-                untried_point(alloc, out, line)
-            }
-        }
+        Some(label) => touch_labelled(
+            alloc, out, steps, line, expansion, names, declared, label, &place, given,
+        ),
         None => untried_point(alloc, out, line),
+    }
+}
+
+// A point of the measurement with this label.
+fn touch_labelled(
+    alloc: Global,
+    out: &mut Vec<Guarded>,
+    steps: bool,
+    line: u32,
+    expansion: u32,
+    names: &Names,
+    declared: &Titles,
+    label: &Name,
+    place: &Coordinates,
+    given: Option<Axis>,
+) -> Result<(), NoMemory>
+    ensures { OnOk result (out.new.items ≡ out.old.items ++ touches steps line expansion names.now declared.now place.now given (Some label.now)) }
+{
+    if has_place(alloc, names, place)? {
+        let place = place_again(alloc, place)?;
+        touch_of(
+            alloc, out, steps, line, expansion, names, declared, label, place, given,
+        )
+    } else {
+        untried_point(alloc, out, line)
+    }
+}
+
+// A point of that measurement, which is approached alone.
+fn halt_labelled(
+    alloc: Global,
+    out: &mut Vec<Guarded>,
+    steps: bool,
+    line: u32,
+    names: &Names,
+    declared: &Titles,
+    label: &Name,
+    place: &Coordinates,
+    given: Option<Axis>,
+) -> Result<(), NoMemory>
+    ensures { OnOk result (out.new.items ≡ out.old.items ++ halts_along steps line names.now place.now given (index_of declared.now label.now)) }
+{
+    let index = index_among(declared, label);
+    halt_along(alloc, out, steps, line, names, place, given, index)
+}
+
+// A point where the way back is known; elsewhere it is approached alone.
+#[tactic(auto, unfolding(crate::specs::Guarding::touches_where))]
+fn touch_where(
+    alloc: Global,
+    out: &mut Vec<Guarded>,
+    steps: bool,
+    line: u32,
+    expansion: u32,
+    names: &Names,
+    declared: &Titles,
+    label: &Name,
+    place: &Coordinates,
+    given: Option<Axis>,
+) -> Result<(), NoMemory>
+    ensures { OnOk result (out.new.items ≡ out.old.items ++ touches_where steps line expansion names.now declared.now place.now given label.now) }
+{
+    stand(
+        out,
+        line,
+        0,
+        Form::Test(is_current(alloc, Carried::Retract)?),
+    )?;
+    touch_labelled(
+        alloc, out, steps, line, expansion, names, declared, label, place, given,
+    )?;
+    elsewhere(out, line)?;
+    halt_labelled(
+        alloc, out, steps, line, names, declared, label, place, given,
+    )?;
+    end(out, line)
+}
+
+/// PTMEAS, in a text where the way back of a point may not be known, or always is where the rest is.
+pub(crate) fn touch_or(
+    alloc: Global,
+    out: &mut Vec<Guarded>,
+    halting: bool,
+    steps: bool,
+    line: u32,
+    expansion: u32,
+    names: &Names,
+    declared: &Titles,
+    measuring: &Option<Name>,
+    place: Coordinates,
+    given: Option<Axis>,
+) -> Result<(), NoMemory>
+    ensures { OnOk result (out.new.items ≡ out.old.items ++ touches_or halting steps line expansion names.now declared.now place given measuring.now) }
+{
+    match (halting, measuring) {
+        (true, Some(label)) => touch_where(
+            alloc, out, steps, line, expansion, names, declared, label, &place, given,
+        ),
+        _ => touch(
+            alloc, out, steps, line, expansion, names, declared, measuring, place, given,
+        ),
     }
 }
 
@@ -366,8 +462,8 @@ fn nominal_where(
     end(out, line)
 }
 
-// The direction of an axis as whole numbers, in thousandths.
-fn direction_of(alloc: Global, axis: Axis) -> Result<Coordinates, NoMemory>
+/// The direction of an axis as whole numbers, in thousandths.
+pub(crate) fn direction_of(alloc: Global, axis: Axis) -> Result<Coordinates, NoMemory>
     ensures { IfOk result (λ d. d ≡ direction_of axis) }
 {
     match axis {

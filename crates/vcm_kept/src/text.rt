@@ -17,6 +17,8 @@ pub struct Text {
     pub slants: bool,
     /// Some of them are along the directions of their features.
     pub pointed: bool,
+    /// The way back of one of its points may not be known.
+    pub halts: bool,
     /// It has polar places, or angles in another unit than decimal degrees.
     pub polar: bool,
     /// It has datums, or frames by them.

@@ -1,12 +1,16 @@
 //! What a launch asks for, and the program that it names.
 
+use crate::whole::says_of_whole;
 use json::Value;
 use std::rt::Files;
-use vcm_dap::Settings;
+use vcm_dap::{Settings, WholeText};
 use vcm_debug::Count;
 use vcm_job::{DebugFault, Given, given_of, read_all};
 use vcm_messages::{Message, message_of};
 use vcm_wire::Request;
+
+const WANTS_WHOLE: &str =
+    "frame, given, apprch, retrct, search, auto, approach, harmless and table want whole";
 
 // The most steps of a motion, where `steps` isn't given.
 const STEPS: u64 = 1_000_000;
@@ -20,6 +24,14 @@ pub(crate) struct Asked<'v> {
     steps: Count,
     stop_on_entry: bool,
     no_debug: bool,
+    pub is_whole: bool,
+}
+
+impl Asked<'_> {
+    /// The most steps of a motion.
+    pub(crate) fn steps(&self) -> u64 {
+        u64::from(self.steps.get())
+    }
 }
 
 // A flag of a request, which is off where it isn't there.
@@ -52,6 +64,10 @@ pub(crate) fn launch_of<'v>(request: &Request<'v, '_>) -> Result<Asked<'v>, &'st
     let Some(steps) = steps_of(request) else {
         return Err("steps is 1 to 1000000");
     };
+    let is_whole = flag(request, "whole");
+    if !is_whole && says_of_whole(request) {
+        return Err(WANTS_WHOLE);
+    }
     Ok(Asked {
         program,
         part,
@@ -59,13 +75,19 @@ pub(crate) fn launch_of<'v>(request: &Request<'v, '_>) -> Result<Asked<'v>, &'st
         steps,
         stop_on_entry: flag(request, "stopOnEntry"),
         no_debug: flag(request, "noDebug"),
+        is_whole,
     })
 }
 
 /// What a launch asks for of the adapter. The text that is shown is the program, or none, where no other one is given.
-pub(crate) fn settings_of<'v>(asked: Asked<'v>, tip: u32, is_image: bool) -> Settings<'v> {
+pub(crate) fn settings_of<'v>(
+    asked: Asked<'v>,
+    tip: u32,
+    has_text: bool,
+    whole: Option<WholeText<'v>>,
+) -> Settings<'v> {
     let source = match asked.source {
-        None if !is_image => Some(asked.program),
+        None if has_text => Some(asked.program),
         source => source,
     };
     Settings {
@@ -74,6 +96,7 @@ pub(crate) fn settings_of<'v>(asked: Asked<'v>, tip: u32, is_image: bool) -> Set
         tip,
         stop_on_entry: asked.stop_on_entry,
         no_debug: asked.no_debug,
+        whole,
     }
 }
 

@@ -3,7 +3,10 @@
 
 mod files;
 mod launching;
+mod opening;
 mod serving;
+mod whole;
 
 pub use files::part_of;
+pub use opening::{Opened, Opens, Unopened};
 pub use serving::serve_dap;

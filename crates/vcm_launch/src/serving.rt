@@ -4,12 +4,14 @@ ghost use Rattle.std.specs.Prelude.{◌<◌, ◌≤◌, ◌+◌, ◌^◌};
 
 use crate::files::part_of;
 use crate::launching::{Asked, launch_of, program_of, settings_of};
+use crate::opening::{Opened, Opens, Unopened};
+use crate::whole::{Unput, words_of};
 use json::{Error, Scratch, Value};
 use std::alloc::Global;
 use std::fmt::Write as _;
 use std::io::{Read, Write};
 use std::rt::Files;
-use vcm_dap::{Adapter, DapFault, Served, Settings, Talk};
+use vcm_dap::{Adapter, DapFault, Served, Settings, Talk, WholeText};
 use vcm_debug::Session;
 use vcm_job::Given;
 use vcm_loader::{Loaded, load};
@@ -131,19 +133,35 @@ fn refuse<W: Write>(
     Ok(true)
 }
 
+// What is told of a program behind its launch: its lines that have no effect, and of a producer's text how it is read.
+#[derive(Clone, Copy)]
+struct Behind<'a> {
+    notices: &'a [Noticed],
+    reading: &'a [u8],
+}
+
+// Tells how a producer's text is read, if there is something to tell.
+fn tell_reading<W: Write>(talk: &mut Talk<W>, reading: &[u8]) -> Result<(), Message<'static>> {
+    if reading.is_empty() {
+        return Ok(());
+    }
+    talk.tell_text("stderr", reading).map_err(dap_message)
+}
+
 // Answers that a program is launched, and what comes behind, up to the end.
 fn serve_session<R: Read, W: Write>(
     talk: &mut Talk<W>,
     request: &Request<'_, '_>,
     adapter: &mut Adapter<'_, '_, AnyPart>,
-    notices: &[Noticed],
+    behind: Behind<'_>,
     input: &mut R,
 ) -> Result<(), Message<'static>>
     requires { adapter.old.session.count < 2 ^ 63 }
 {
     let alloc = talk.alloc();
     talk.done(request).map_err(dap_message)?;
-    tell_notices(alloc, talk, adapter, notices)?;
+    tell_notices(alloc, talk, adapter, behind.notices)?;
+    tell_reading(talk, behind.reading)?;
     adapter.ready(talk).map_err(dap_message)?;
     serve_adapter(alloc, talk, adapter, input)
 }
@@ -155,7 +173,7 @@ fn open_session<R: Read, W: Write>(
     settings: Settings<'_>,
     loaded: &Loaded<'_>,
     part: &PartData,
-    notices: &[Noticed],
+    behind: Behind<'_>,
     input: &mut R,
 ) -> Result<bool, Message<'static>> {
     let alloc = talk.alloc();
@@ -166,7 +184,7 @@ fn open_session<R: Read, W: Write>(
         return refuse(alloc, talk, request, Message::NoMemory);
     };
     let mut adapter = Adapter::new(session, settings);
-    serve_session(talk, request, &mut adapter, notices, input)?;
+    serve_session(talk, request, &mut adapter, behind, input)?;
     Ok(false)
 }
 
@@ -184,36 +202,93 @@ fn open_program<R: Read, W: Write>(
         Ok(loaded) => loaded,
         Err(fault) => return refuse(alloc, talk, request, fault.told()),
     };
-    let settings = settings_of(asked, part.bounds().tip, program.text.is_none());
-    open_session(
-        talk,
-        request,
-        settings,
-        &loaded,
-        part,
-        program.notices.as_slice(),
-        input,
-    )
+    let settings = settings_of(asked, part.bounds().tip, program.text.is_some(), None);
+    let behind = Behind {
+        notices: program.notices.as_slice(),
+        reading: &[],
+    };
+    open_session(talk, request, settings, &loaded, part, behind, input)
+}
+
+// Opens a session on what a producer's text is put as. Tells whether there may be another request.
+fn open_text<R: Read, W: Write>(
+    talk: &mut Talk<W>,
+    request: &Request<'_, '_>,
+    asked: Asked<'_>,
+    opened: &Opened,
+    part: &PartData,
+    input: &mut R,
+) -> Result<bool, Message<'static>> {
+    let alloc = talk.alloc();
+    let loaded = match load(alloc, &opened.given.image) {
+        Ok(loaded) => loaded,
+        Err(fault) => return refuse(alloc, talk, request, fault.told()),
+    };
+    let whole = WholeText {
+        untried: opened.untried.as_slice(),
+        words: opened.words.as_slice(),
+        told: opened.told.as_slice(),
+        status: opened.status,
+    };
+    let settings = settings_of(asked, part.bounds().tip, true, Some(whole));
+    let behind = Behind {
+        notices: opened.given.notices.as_slice(),
+        reading: opened.notices.as_slice(),
+    };
+    open_session(talk, request, settings, &loaded, part, behind, input)
+}
+
+// Refuses a launch, and says why. There may be another request.
+fn refuse_words<W: Write>(
+    talk: &mut Talk<W>,
+    request: &Request<'_, '_>,
+    why: &str,
+) -> Result<bool, Message<'static>> {
+    talk.refuse(request, why).map_err(dap_message)?;
+    Ok(true)
+}
+
+// Launches a producer's text. Tells whether there may be another request.
+fn launch_whole<O: Opens, R: Read, W: Write>(
+    opener: &O,
+    talk: &mut Talk<W>,
+    request: &Request<'_, '_>,
+    asked: Asked<'_>,
+    part: &PartData,
+    input: &mut R,
+) -> Result<bool, Message<'static>> {
+    let alloc = talk.alloc();
+    let words = match words_of(alloc, request, asked.program, asked.part) {
+        Ok(words) => words,
+        Err(Unput::Refused(why)) => return refuse_words(talk, request, why),
+        Err(Unput::NoMemory) => return refuse(alloc, talk, request, Message::NoMemory),
+    };
+    match opener.open(&words, part, asked.steps()) {
+        Ok(opened) => open_text(talk, request, asked, &opened, part, input),
+        Err(Unopened::Refused(why)) => refuse_words(talk, request, &why),
+        Err(Unopened::NoMemory) => refuse(alloc, talk, request, Message::NoMemory),
+    }
 }
 
 // Launches a program. Tells whether there may be another request.
-fn launch<Rt: Files + AllocGlobal, R: Read, W: Write>(
+fn launch<Rt: Files + AllocGlobal, O: Opens, R: Read, W: Write>(
     rt: &Rt,
+    opener: &O,
     talk: &mut Talk<W>,
     request: &Request<'_, '_>,
     input: &mut R,
 ) -> Result<bool, Message<'static>> {
     let asked = match launch_of(request) {
         Ok(asked) => asked,
-        Err(why) => {
-            talk.refuse(request, why).map_err(dap_message)?;
-            return Ok(true);
-        }
+        Err(why) => return refuse_words(talk, request, why),
     };
     let part = match part_of(rt, asked.part) {
         Ok(part) => part,
         Err(message) => return refuse(rt.alloc(), talk, request, message),
     };
+    if asked.is_whole {
+        return launch_whole(opener, talk, request, asked, &part, input);
+    }
     match program_of(rt, asked.program) {
         Ok(program) => open_program(talk, request, asked, &program, &part, input),
         Err(message) => refuse(rt.alloc(), talk, request, message),
@@ -221,14 +296,15 @@ fn launch<Rt: Files + AllocGlobal, R: Read, W: Write>(
 }
 
 // Answers a request before a launch. Tells whether there may be another one.
-fn serve_first<Rt: Files + AllocGlobal, R: Read, W: Write>(
+fn serve_first<Rt: Files + AllocGlobal, O: Opens, R: Read, W: Write>(
     rt: &Rt,
+    opener: &O,
     talk: &mut Talk<W>,
     request: &Request<'_, '_>,
     input: &mut R,
 ) -> Result<bool, Message<'static>> {
     let done = match request.command {
-        "launch" => return launch(rt, talk, request, input),
+        "launch" => return launch(rt, opener, talk, request, input),
         "initialize" => match talk.initialize(request) {
             Ok(_) => Ok(()),
             Err(fault) => Err(fault),
@@ -243,8 +319,9 @@ fn serve_first<Rt: Files + AllocGlobal, R: Read, W: Write>(
 }
 
 // Answers one message before a launch. Tells whether there may be another one.
-fn serve_first_message<Rt: Files + AllocGlobal, R: Read, W: Write>(
+fn serve_first_message<Rt: Files + AllocGlobal, O: Opens, R: Read, W: Write>(
     rt: &Rt,
+    opener: &O,
     talk: &mut Talk<W>,
     bytes: &[u8],
     input: &mut R,
@@ -255,18 +332,20 @@ fn serve_first_message<Rt: Files + AllocGlobal, R: Read, W: Write>(
         Err(fault) => return Err(json_message(fault)),
     };
     match request_of(&message) {
-        Ok(request) => serve_first(rt, talk, &request, input),
+        Ok(request) => serve_first(rt, opener, talk, &request, input),
         Err(Unread::NoRequest) => Ok(true),
         Err(Unread::Broken) => Err(BROKEN),
     }
 }
 
-/// Speaks the Debug Adapter Protocol: reads requests up to their end, and writes what is answered and told. A launch opens files of the runtime.
+/// Speaks the Debug Adapter Protocol: reads requests up to their end, and writes what is answered and told. A launch opens files of the runtime; one with the key `whole`
+/// has the opener open its text.
 ///
 /// Errors: how it is told that what was read is no request, is too long or could not be read, each as a fault of standard input; that the writer
 /// failed, as one of standard output; that a growth of memory was refused. What was written before stands.
-pub fn serve_dap<Rt: Files + AllocGlobal, R: Read, W: Write + Drop>(
+pub fn serve_dap<Rt: Files + AllocGlobal, O: Opens, R: Read, W: Write + Drop>(
     rt: &Rt,
+    opener: &O,
     input: &mut R,
     out: W,
 ) -> Result<(), Message<'static>> {
@@ -275,7 +354,7 @@ pub fn serve_dap<Rt: Files + AllocGlobal, R: Read, W: Write + Drop>(
         let Some(bytes) = read_frame(rt.alloc(), input).map_err(frame_message)? else {
             return Ok(());
         };
-        if !serve_first_message(rt, &mut talk, &bytes, input)? {
+        if !serve_first_message(rt, opener, &mut talk, &bytes, input)? {
             return Ok(());
         }
     }

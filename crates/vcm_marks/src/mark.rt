@@ -59,11 +59,13 @@ pub struct Moment {
     pub line: u32,
 }
 
-/// A mark with its step, counted from 1, and the number and the source line of its statement.
+/// A mark with its step, counted from 1, and the number and the source line of its statement; and whether it is a piece that begins elsewhere than on the machine,
+/// since something of a whole program wasn't tried before it.
 #[derive(Clone, Copy)]
 pub struct PlacedMark {
     pub mark: Mark,
     pub step: u64,
     pub number: u32,
     pub line: u32,
+    pub is_elsewhere: bool,
 }

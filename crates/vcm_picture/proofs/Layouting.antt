@@ -48,18 +48,18 @@ layout_small r u up wide deep high e h i w d g =
     rw e p
 
 -- the bytes of a picture, as its steps give them
-pub picture_made : (o m first : List ℕ) (part : Workpiece) (held : Held) (done : ℕ) (marks : List PlacedMark) (left_out : ℕ) (is_close : Bool) (w : Window)
-    (l : Layout) (up : ℤ) → o ≡ [] → m ≡ o ++ picture_of part held done marks left_out w l first → w ≡ window_round part held marks is_close
-    → l ≡ layout_of w up → up ≡ above left_out → first ≡ first_line held.tables held.state.stop done
-    → m ≡ picture_text (sheet part held done marks left_out is_close)
-picture_made o m first part held done marks left_out is_close w l up a h b d e f =
-    let laid : l ≡ layout_of (window_round part held marks is_close) (above left_out) =
+pub picture_made : (o m first : List ℕ) (part : Workpiece) (held : Held) (done : ℕ) (marks : List PlacedMark) (left_out : ℕ) (is_close : Bool) (untried : List (List ℕ)) (w : Window)
+    (l : Layout) (up : ℤ) → o ≡ [] → m ≡ o ++ picture_of part held done marks left_out untried w l first → w ≡ window_round part held marks is_close
+    → l ≡ layout_of w up → up ≡ above left_out untried → first ≡ first_line held.tables held.state.stop done
+    → m ≡ picture_text (sheet part held done marks left_out is_close untried)
+picture_made o m first part held done marks left_out is_close untried w l up a h b d e f =
+    let laid : l ≡ layout_of (window_round part held marks is_close) (above left_out untried) =
     d ∙ ap (λ (v : Window). layout_of v up) b ∙ ap (λ (n : ℤ). layout_of (window_round part held marks is_close) n) e in
-    h ∙ ap (λ (k : List ℕ). k ++ picture_of part held done marks left_out w l first) a
-    ∙ ap (λ (v : Window). picture_of part held done marks left_out v l first) b
-    ∙ ap (λ (v : Layout). picture_of part held done marks left_out (window_round part held marks is_close) v first) laid
-    ∙ ap (λ (v : List ℕ). picture_of part held done marks left_out (window_round part held marks is_close)
-    (layout_of (window_round part held marks is_close) (above left_out)) v) f
+    h ∙ ap (λ (k : List ℕ). k ++ picture_of part held done marks left_out untried w l first) a
+    ∙ ap (λ (v : Window). picture_of part held done marks left_out untried v l first) b
+    ∙ ap (λ (v : Layout). picture_of part held done marks left_out untried (window_round part held marks is_close) v first) laid
+    ∙ ap (λ (v : List ℕ). picture_of part held done marks left_out untried (window_round part held marks is_close)
+    (layout_of (window_round part held marks is_close) (above left_out untried)) v) f
 
 -- the bytes that were written are those of the picture
 pub picture_written : {A : Type 0} (o n : Option (List ℕ)) (r : Result A PictureFault) (b d : List ℕ) → b ≡ d → IsPicture o n b r → IsPicture o n d r

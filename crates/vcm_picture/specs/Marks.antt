@@ -1,5 +1,6 @@
 -- The marks of a way.
 use Rattle.std.specs.Prelude.{nat_le, Bool, List, [], ◌∷◌, Option, Some, None}
+use Rattle.std.specs.List.{list_any}
 use Rattle.vcm_marks.specs.declared.mark.Contact.{Contact}
 use Rattle.vcm_marks.specs.declared.mark.Mark.{Mark}
 use Rattle.vcm_marks.specs.declared.mark.Mark.TheVariants.{Goes, Touches, Meets}
@@ -20,3 +21,7 @@ contact_of (m ∷ ms) = contact_or m.mark (contact_of ms)
 -- whether there are few enough pieces for arrows
 abbrev pub are_few : List PlacedMark → Bool
 are_few marks = nat_le (pieces marks) 500
+
+-- some piece begins elsewhere
+abbrev pub begin_elsewhere : List PlacedMark → Bool
+begin_elsewhere marks = list_any (λ m. m.is_elsewhere) marks

@@ -10,6 +10,7 @@ use Rattle.vcm_state.specs.Held.{Held}
 use Rattle.vcm_marks.specs.declared.mark.PlacedMark.{PlacedMark}
 use Rattle.vcm_svg.specs.Heading.{heading_text}
 use Rattle.vcm_svg.specs.Legend.{legend_text, bar_text}
+use Rattle.vcm_svg.specs.Notes.{notes_high, notes_text}
 use Rattle.vcm_svg.specs.declared.outlines.Outline.TheVariants.{Rectangle}
 use Rattle.vcm_svg.specs.Outlines.{outline_text}
 use Rattle.vcm_svg.specs.Pieces.{joined}
@@ -24,13 +25,13 @@ use Rattle.vcm_picture.specs.declared.view.View.TheVariants.{Top, Front, Side}
 use Rattle.vcm_picture.specs.Sights.{Window}
 use Rattle.vcm_picture.specs.Drawing.{Scene, frame_of, scene, view_text}
 use Rattle.vcm_picture.specs.Heading.{first_line}
-use Rattle.vcm_picture.specs.Marks.{are_few}
+use Rattle.vcm_picture.specs.Marks.{are_few, begin_elsewhere}
 use Rattle.vcm_picture.specs.Span.{span_of}
 use Rattle.vcm_picture.specs.View.{clip, scope_of}
 use Rattle.vcm_picture.specs.Window.{window_of}
 
 -- what a picture shows: the workpiece, the state at the end with its tables of names, the steps that were done, the marks of the way, how many
--- pieces were left out before them, and whether it shows the blocks as large as they are
+-- pieces were left out before them, whether it shows the blocks as large as they are, and lines of what wasn't tried
 pub record Sheet : Type 0 where
   pub part : Workpiece
   pub held : Held
@@ -38,16 +39,18 @@ pub record Sheet : Type 0 where
   pub marks : List PlacedMark
   pub left_out : ℕ
   pub is_close : Bool
+  pub untried : List (List ℕ)
 
 -- a sheet of these
-abbrev pub sheet : Workpiece → Held → ℕ → List PlacedMark → ℕ → Bool → Sheet
-sheet part held done marks left_out is_close = record {
+abbrev pub sheet : Workpiece → Held → ℕ → List PlacedMark → ℕ → Bool → List (List ℕ) → Sheet
+sheet part held done marks left_out is_close untried = record {
   part = part;
   held = held;
   done = done;
   marks = marks;
   left_out = left_out;
   is_close = is_close;
+  untried = untried;
 }
 
 -- the window round these points, blocks and marks
@@ -60,9 +63,17 @@ window_for is_close home position blocks marks =
 abbrev pub window_round : Workpiece → Held → List PlacedMark → Bool → Window
 window_round part held marks is_close = window_for is_close part.bounds.home held.state.position part.blocks marks
 
--- how many units the top view stands below the upper edge: the heading has two lines, and a third where pieces are left out
-abbrev pub above : ℕ → ℤ
-above left_out = if nat_eq left_out 0 then pos 82 else pos 100
+-- how many units the heading is high: it has two lines, and a third where pieces are left out
+abbrev pub heading_high : ℕ → ℤ
+heading_high left_out = if nat_eq left_out 0 then pos 82 else pos 100
+
+-- how many units the top view stands below the upper edge: what wasn't tried stands between
+abbrev pub above : ℕ → List (List ℕ) → ℤ
+above left_out untried = heading_high left_out +ℤ notes_high untried
+
+-- how many units below the upper edge the first line of what wasn't tried stands
+abbrev pub below_heading : ℕ → ℕ
+below_heading left_out = if nat_eq left_out 0 then 56 else 74
 
 -- how wide an axis is in units of the picture
 abbrev pub units : Window → ℕ → ℤ
@@ -141,20 +152,26 @@ abbrev pub foot_text : Window → Layout → List ℕ
 foot_text w l =
     legend_text (legend_spot l w.unit) w.unit ++ (bar_text (bar_place l w.unit) w.unit w.grain (units w 0) ++ codes "</svg>\n")
 
+-- the heading, and what wasn't tried below it
+abbrev pub headings_text : Window → Layout → List ℕ → Point → ℕ → List PlacedMark → ℕ → List (List ℕ) → List ℕ
+headings_text w l first position done marks left_out untried =
+    heading_text w.unit first position done left_out
+    ++ notes_text w.unit (below_heading left_out) untried (legend_spot l w.unit) (begin_elsewhere marks)
+
 -- a picture of these, with this window, layout and first line of the heading
-abbrev pub picture_of : Workpiece → Held → ℕ → List PlacedMark → ℕ → Window → Layout → List ℕ → List ℕ
-picture_of part held done marks left_out w l first =
+abbrev pub picture_of : Workpiece → Held → ℕ → List PlacedMark → ℕ → List (List ℕ) → Window → Layout → List ℕ → List ℕ
+picture_of part held done marks left_out untried w l first =
     head_text l w.unit first
     ++ (style_text w.unit (length part.blocks) (are_few marks)
     ++ (background_text w l
-    ++ (heading_text w.unit first held.state.position done left_out ++ (views_text w l (scene part held first) marks views ++ foot_text w l))))
+    ++ (headings_text w l first held.state.position done marks left_out untried ++ (views_text w l (scene part held first) marks views ++ foot_text w l))))
 
 -- the same of a sheet
 abbrev pub picture_with : Sheet → Window → Layout → List ℕ → List ℕ
-picture_with s w l first = picture_of s.part s.held s.done s.marks s.left_out w l first
+picture_with s w l first = picture_of s.part s.held s.done s.marks s.left_out s.untried w l first
 
 -- the bytes of a picture
 abbrev pub picture_text : Sheet → List ℕ
 picture_text s =
     let w = window_round s.part s.held s.marks s.is_close in
-    picture_with s w (layout_of w (above s.left_out)) (first_line s.held.tables s.held.state.stop s.done)
+    picture_with s w (layout_of w (above s.left_out s.untried)) (first_line s.held.tables s.held.state.stop s.done)

@@ -1,5 +1,5 @@
 -- Worked examples: a top view of 30 by 30 millimetres in units of 10 micrometres, whose marks and texts have the unit 5.
-use Rattle.std.specs.Prelude.{◌≡◌, refl, ℕ, ℤ, pos, [], ◌∷◌, Some}
+use Rattle.std.specs.Prelude.{◌≡◌, refl, ℕ, ℤ, pos, false, [], ◌∷◌, Some}
 use Rattle.vcm_num.specs.Point.{point}
 use Rattle.vcm_marks.specs.declared.mark.Mark.TheVariants.{Touches}
 use Rattle.vcm_marks.specs.declared.mark.PlacedMark.{PlacedMark}
@@ -28,7 +28,7 @@ touched = record { at = point (pos 20000) (pos 10000) (pos 0); feature = 4 }
 
 -- its mark
 abbrev mark : PlacedMark
-mark = record { mark = Touches touched; step = 7; number = 3; line = 12 }
+mark = record { mark = Touches touched; step = 7; number = 3; line = 12; is_elsewhere = false }
 
 -- it is a circle of three units, 2000 to the right and 2000 down, with its step
 pub touched_there : touched_points scope (mark ∷ [])

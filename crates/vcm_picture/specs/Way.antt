@@ -36,10 +36,14 @@ class_of Search a b is_few = class.Search
 class_of Retract a b is_few = class.Retract
 class_of Rest a b is_few = class.Rest
 
+-- the class of a piece of this class, if it begins elsewhere
+abbrev pub class_if : Bool → Class → Class
+class_if is_elsewhere c = if is_elsewhere then class.Elsewhere else c
+
 -- a piece: a line between its ends
 abbrev pub piece_shape : Scope → Bool → PlacedMark → Leg → Shape
 piece_shape s is_few m p =
-    Told (class_of p.going (spot_of s p.from) (spot_of s p.to) is_few) (outline.Line (spot_of s p.from) (spot_of s p.to)) (tip.Leg (step_of m) p)
+    Told (class_if m.is_elsewhere (class_of p.going (spot_of s p.from) (spot_of s p.to) is_few)) (outline.Line (spot_of s p.from) (spot_of s p.to)) (tip.Leg (step_of m) p)
 
 -- the piece of a mark
 abbrev pub mark_piece : Scope → Bool → PlacedMark → Mark → Option Shape

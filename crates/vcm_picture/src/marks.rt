@@ -2,7 +2,8 @@
 
 ghost use Rattle.std.specs.Prelude.{◌≡◌, ◌≤◌};
 ghost use Rattle.vcm_marks.specs.Pieces.{counted, is_piece};
-ghost use Rattle.vcm_picture.specs.Marks.{are_few, contact_of};
+ghost use Rattle.std.specs.List.{list_any};
+ghost use Rattle.vcm_picture.specs.Marks.{are_few, begin_elsewhere, contact_of};
 
 use vcm_marks::{Contact, Mark, PlacedMark};
 
@@ -31,6 +32,13 @@ pub fn are_few(marks: &[PlacedMark]) -> bool
         count += pieces_in(&placed.mark);
     }
     count <= FEW_PIECES
+}
+
+/// Whether some piece begins elsewhere.
+pub fn begin_elsewhere(marks: &[PlacedMark]) -> bool
+    ensures { result ≡ begin_elsewhere marks.now }
+{
+    marks.iter().any(|placed| placed.is_elsewhere)
 }
 
 /// The contact of a way, if there is one.

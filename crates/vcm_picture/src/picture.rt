@@ -1,9 +1,9 @@
 //! The whole picture.
 
-ghost use Rattle.std.specs.Prelude.{◌≡◌, ◌++◌, ◌<◌, OnOk, IfOk, IsTrue};
+ghost use Rattle.std.specs.Prelude.{◌≡◌, ◌++◌, ◌<◌, ◌≤ℤ◌, pos, map, OnOk, IfOk, IsTrue};
 ghost use Rattle.std.specs.List.{list_all};
 ghost use Rattle.vcm_spec.specs.Workpiece.{is_block};
-ghost use Rattle.vcm_picture.specs.Picture.{above, units, laid_out, layout_with, layout_of, head_text, clip_text, clips_text, background_text, window_for, window_round, view_spot, views_text, legend_spot, bar_place, foot_text, picture_of, picture_text, sheet};
+ghost use Rattle.vcm_picture.specs.Picture.{above, heading_high, below_heading, headings_text, units, laid_out, layout_with, layout_of, head_text, clip_text, clips_text, background_text, window_for, window_round, view_spot, views_text, legend_spot, bar_place, foot_text, picture_of, picture_text, sheet};
 ghost use Rattle.vcm_picture.specs.Drawing.{scene, view_text};
 ghost use Rattle.vcm_picture.specs.Ranges.{IsLayout};
 ghost use Rattle.vcm_svg.specs.Ranges.{IsSize, IsSmall};
@@ -14,7 +14,7 @@ ghost use Rattle.vcm_svg.specs.Rect.{spot};
 
 use crate::drawing::{frame_of, put_view};
 use crate::heading::first_line;
-use crate::marks::are_few;
+use crate::marks::{are_few, begin_elsewhere};
 use crate::span::span_of;
 use crate::view::{View, clip, scope_of};
 use crate::window::{Window, window_of};
@@ -27,8 +27,8 @@ use vcm_part::PartData;
 use vcm_spec::Block3;
 use vcm_state::World;
 use vcm_svg::{
-    BoundedSpot, Class, Fragment, Outline, Spot, Unit, put, put_bar, put_heading, put_legend,
-    put_outline, put_path, put_style, quotient,
+    BoundedSpot, Class, Fragment, Outline, Spot, Unit, notes_high, put, put_bar, put_heading,
+    put_legend, put_notes, put_outline, put_path, put_style, quotient,
 };
 
 /// Why a picture isn't written.
@@ -317,12 +317,54 @@ fn put_foot(out: &mut Vec<u8>, window: Window, layout: Layout) -> Result<(), NoM
     put(out, &[Fragment::Text(b"</svg>\n")])
 }
 
-// How many units the top view stands below the upper edge.
-fn above(left_out: u64) -> i64
-    ensures above { result ≡ above left_out }
-    ensures line { IsLine result }
+// How many units the heading is high, without what wasn't tried.
+fn heading_high(left_out: u64) -> i64
+    ensures high { result ≡ heading_high left_out }
+    ensures from_below { pos 0 ≤ℤ result }
+    ensures from_above { result ≤ℤ pos 100 }
 {
     if left_out == 0 { 82 } else { 100 }
+}
+
+// How many units the top view stands below the upper edge.
+fn above(left_out: u64, untried: &[Vec<u8>]) -> i64
+    ensures above { result ≡ above left_out (map (λ line. line.items) untried.now) }
+    ensures line { IsLine result }
+{
+    heading_high(left_out) + notes_high(untried)
+}
+
+// How many units below the upper edge the first line of what wasn't tried stands.
+fn below_heading(left_out: u64) -> u16
+    ensures { result ≡ below_heading left_out }
+{
+    if left_out == 0 { 56 } else { 74 }
+}
+
+// Appends the heading, and what wasn't tried below it.
+fn put_headings(
+    out: &mut Vec<u8>,
+    window: Window,
+    layout: Layout,
+    first: &[u8],
+    position: Point,
+    done: u64,
+    marks: &[PlacedMark],
+    left_out: u64,
+    untried: &[Vec<u8>],
+) -> Result<(), NoMemory>
+    ensures { OnOk result (out.new.items ≡ out.old.items ++ headings_text window layout first.now position done marks.now left_out (map (λ line. line.items) untried.now)) }
+{
+    let unit = window.unit();
+    put_heading(out, unit, first, position, done, left_out)?;
+    put_notes(
+        out,
+        unit,
+        below_heading(left_out),
+        untried,
+        legend_spot(layout, unit),
+        begin_elsewhere(marks),
+    )
 }
 
 // Appends the picture with this window, layout and first line of the heading.
@@ -334,17 +376,21 @@ fn put_picture(
     done: u64,
     marks: &[PlacedMark],
     left_out: u64,
+    untried: &[Vec<u8>],
     window: Window,
     layout: Layout,
     first: &[u8],
 ) -> Result<(), NoMemory>
-    ensures { OnOk result (out.new.items ≡ out.old.items ++ picture_of part.now world.now done marks.now left_out window layout first.now) }
+    ensures { OnOk result (out.new.items ≡ out.old.items ++ picture_of part.now world.now done marks.now left_out (map (λ line. line.items) untried.now) window layout first.now) }
 {
     let unit = window.unit();
     put_head(out, layout, unit, first)?;
     put_style(out, unit, part.blocks().len(), are_few(marks))?;
     put_background(out, window, layout)?;
-    put_heading(out, unit, first, world.position(), done, left_out)?;
+    let position = world.position();
+    put_headings(
+        out, window, layout, first, position, done, marks, left_out, untried,
+    )?;
     put_views(
         alloc, out, &VIEWS, window, layout, part, world, first, marks,
     )?;
@@ -360,11 +406,12 @@ fn picture(
     marks: &[PlacedMark],
     left_out: u64,
     is_close: bool,
+    untried: &[Vec<u8>],
 ) -> Result<Vec<u8>, NoMemory>
-    ensures { IfOk result (λ bytes. bytes.items ≡ picture_text (sheet part.now world.now done marks.now left_out is_close)) }
+    ensures { IfOk result (λ bytes. bytes.items ≡ picture_text (sheet part.now world.now done marks.now left_out is_close (map (λ line. line.items) untried.now))) }
 {
     let window = window_round(part, world, marks, is_close);
-    let layout = layout_of(window, above(left_out));
+    let layout = layout_of(window, above(left_out, untried));
     let first = first_line(alloc, world.tables(), world.stop(), done)?;
     let mut out = Vec::new(alloc);
     put_picture(
@@ -375,6 +422,7 @@ fn picture(
         done,
         marks,
         left_out,
+        untried,
         window,
         layout,
         first.as_slice(),
@@ -394,7 +442,7 @@ fn write_bytes<W: Write>(writer: &mut W, bytes: &[u8]) -> Result<(), PictureFaul
 
 /// Writes a picture of a workpiece and of the way of the probe as SVG: three views with the blocks, the marks of the way, and the state at the end
 /// of a run of so many steps. `left_out` pieces of the way are left out before the marks. A close picture shows the blocks as large as they
-/// are.
+/// are. Lines of what wasn't tried stand in its heading, 40 at most.
 ///
 /// # Errors
 ///
@@ -408,11 +456,12 @@ pub fn write_picture<W: Write>(
     marks: &[PlacedMark],
     left_out: u64,
     is_close: bool,
+    untried: &[Vec<u8>],
     writer: &mut W,
 ) -> Result<(), PictureFault>
-    ensures { IsPicture (W.contents writer.old) (W.contents writer.new) (picture_text (sheet part.now world.now done marks.now left_out is_close)) result }
+    ensures { IsPicture (W.contents writer.old) (W.contents writer.new) (picture_text (sheet part.now world.now done marks.now left_out is_close (map (λ line. line.items) untried.now))) result }
 {
-    match picture(alloc, part, world, done, marks, left_out, is_close) {
+    match picture(alloc, part, world, done, marks, left_out, is_close, untried) {
         Ok(bytes) => write_bytes(writer, bytes.as_slice()),
         Err(_) => Err(PictureFault::NoMemory),
     }

@@ -2,7 +2,7 @@
 
 ghost use Rattle.std.specs.Prelude.{◌≡◌, ◌++◌, ◌||◌, int_lt, OnOk};
 ghost use Rattle.vcm_marks.specs.declared.mark.Going.TheVariants as going;
-ghost use Rattle.vcm_picture.specs.Way.{class_of, piece_shape, mark_piece, pieces, touched_shape, mark_touched, touched_points, in_view, limits_in, limits_shape, home_shape, end_shape, tip_shape, half_of, tip_at, tip_at_contact, contact_shape, ends, way_shapes};
+ghost use Rattle.vcm_picture.specs.Way.{class_of, class_if, piece_shape, mark_piece, pieces, touched_shape, mark_touched, touched_points, in_view, limits_in, limits_shape, home_shape, end_shape, tip_shape, half_of, tip_at, tip_at_contact, contact_shape, ends, way_shapes};
 
 use crate::marks::{are_few, contact_of};
 use crate::shapes::{Shape, Tip, push_shape, push_shapes, step_of};
@@ -38,6 +38,17 @@ fn class_of(going: Going, from: Spot, to: Spot, is_few: bool) -> Class
     }
 }
 
+// The class of a piece of this class, if it begins elsewhere.
+fn class_if(is_elsewhere: bool, class: Class) -> Class
+    ensures { result ≡ class_if is_elsewhere class }
+{
+    if is_elsewhere {
+        Class::Elsewhere
+    } else {
+        class
+    }
+}
+
 // A piece.
 fn piece_shape(scope: Scope, is_few: bool, placed: &PlacedMark, piece: &Leg) -> Shape
     ensures { result ≡ piece_shape scope is_few placed.now piece.now }
@@ -45,7 +56,7 @@ fn piece_shape(scope: Scope, is_few: bool, placed: &PlacedMark, piece: &Leg) -> 
     let from = spot_of(scope, piece.from).spot();
     let to = spot_of(scope, piece.to).spot();
     Shape::Told(
-        class_of(piece.going, from, to, is_few),
+        class_if(placed.is_elsewhere, class_of(piece.going, from, to, is_few)),
         Outline::Line(from, to),
         Tip::Leg(step_of(placed), *piece),
     )

@@ -82,6 +82,14 @@ power n =
 abbrev pub rounded : ℕ → Lone → ℕ
 rounded unit n = (2 * (n.value * unit) + power n.places) / (2 * power n.places)
 
+-- how many millionths a number has, without its sign
+abbrev pub in_millionths : Lone → ℕ
+in_millionths n = n.value * power (6 - n.places)
+
+-- the thousandths of a component of a direction, to the nearest one; none only where it is below 0.00004, so that a direction that counts as one along an axis is one
+abbrev pub component : Lone → ℕ
+component n = if rounded 1000 n == 0 && not (nat_lt (in_millionths n) 40) then 1 else rounded 1000 n
+
 -- a minus, where a number below zero doesn't come to 0
 abbrev pub minus_of : Bool → List ℕ
 minus_of negative = if negative then 45 ∷ [] else []
@@ -96,7 +104,7 @@ written_or field negative m = if nat_lt m MOST_LENGTH then written negative m el
 
 -- how many millionths a number has, without its sign, none where it is no number
 abbrev pub millionths : Lone → Option ℕ
-millionths n = if is_lone n then Some (n.value * power (6 - n.places)) else None
+millionths n = if is_lone n then Some (in_millionths n) else None
 
 -- the same of bytes
 abbrev pub millionths_in : List ℕ → Option ℕ

@@ -15,8 +15,8 @@ use Rattle.vcm_plain.specs.declared.plain.Mode.TheVariants as mode
 use Rattle.vcm_plain.specs.declared.plain.Kind.{Kind}
 use Rattle.vcm_plain.specs.declared.plain.Kind.TheVariants as kind
 use Rattle.vcm_plain.specs.declared.plain.Place.{Place}
-use Rattle.vcm_plain.specs.Numbers.{unread, lone_from, is_lone, is_space, rounded, written_or}
-use Rattle.vcm_plain.specs.Units.{micrometres, unit_named, is_same_unit}
+use Rattle.vcm_plain.specs.Numbers.{unread, lone_from, is_lone, is_space, rounded, component, written_or}
+use Rattle.vcm_plain.specs.Units.{micrometres, factor, unit_named, is_same_unit}
 use Rattle.vcm_plain.specs.Fine.{exact_text}
 
 -- ---- where the reading of a text stands
@@ -73,6 +73,7 @@ is_kind_word word = found_or false (look_up
     ∷ (codes "POL", true)
     ∷ (codes "INCR", true)
     ∷ (codes "POINT", true)
+    ∷ (codes "PLANE", true)
     ∷ (codes "XORIG", true)
     ∷ (codes "YORIG", true)
     ∷ (codes "ZORIG", true)
@@ -97,7 +98,7 @@ is_kept word = is_kind_word word || is_setting_word word
 abbrev pub is_kept_word : List ℕ → Bool
 is_kept_word bs = is_kept (word_of bs)
 
--- a field that is no number: in another unit than the language's it is put as something that isn't known
+-- a piece of a field that is broken in two: in another unit than the language's it is put as something that isn't known
 abbrev pub other_field : Unit → List ℕ → List ℕ
 other_field u bs = if is_plain_unit u || is_kept_word bs then bs else 42 ∷ bs
 
@@ -105,33 +106,45 @@ other_field u bs = if is_plain_unit u || is_kept_word bs then bs else 42 ∷ bs
 abbrev pub plain_expression : List ℕ → List ℕ
 plain_expression bs = exact_text (folded bs)
 
--- a field that is an expression, or a word: in the language's unit it is written in the language's forms
+-- an expression of lengths in this unit, as one of millimetres
+abbrev pub converted : Unit → List ℕ → List ℕ
+converted u bs = 40 ∷ plain_expression bs ++ 41 ∷ factor u
+
+-- a field that is an expression, or a word
 abbrev pub expression_field : Unit → List ℕ → List ℕ
-expression_field u bs = if is_plain_unit u then plain_expression bs else other_field u bs
+expression_field u bs = if is_plain_unit u then plain_expression bs else if is_kept_word bs then bs else converted u bs
 
 -- a field of values, in any unit; one that is broken in two stays
 abbrev pub value_field : Bool → List ℕ → List ℕ
 value_field broken bs = if broken then bs else plain_expression bs
 
--- how many micrometres one of a statement's numbers has, behind so many of them: the first three of a place are lengths, those behind are a direction
-abbrev pub unit_at : Kind → ℕ → Unit → ℕ
-unit_at kind.Places n u = if nat_lt n 3 then micrometres u else 1000
-unit_at kind.Polar n u = if nat_lt n 3 then micrometres u else 1000
-unit_at k n u = micrometres u
+-- whether one of a statement's numbers, behind so many of them, is of a direction: those behind the first three of a place, or behind the first of a step
+abbrev pub is_direction : Kind → ℕ → Bool
+is_direction kind.Places n = not (nat_lt n 3)
+is_direction kind.Polar n = not (nat_lt n 3)
+is_direction kind.Step n = not (nat_eq n 0)
+is_direction k n = false
 
 -- whether one of a statement's numbers, behind so many of them, is an angle: the second of a polar place
 abbrev pub is_angle : Kind → ℕ → Bool
 is_angle kind.Polar n = nat_eq n 1
 is_angle k n = false
 
+-- the unit that it has: neither a direction nor an angle has that of lengths
+abbrev pub unit_of : Kind → ℕ → Unit → Unit
+unit_of k n u = if is_direction k n || is_angle k n then Millimetre else u
+
+-- a number in whole micrometres, or in thousandths
+abbrev pub size_at : Unit → Kind → ℕ → Lone → ℕ
+size_at u k n l = if is_direction k n then component l else rounded (micrometres u) l
+
 -- a field that is a number: an angle stays, and in the language's unit what has three decimals at most
 abbrev pub number_field : Unit → Kind → ℕ → List ℕ → Lone → List ℕ
-number_field u k n bs l =
-    if is_angle k n || (is_plain_unit u && not l.fine) then bs else written_or bs l.negative (rounded (unit_at k n u) l)
+number_field u k n bs l = if is_angle k n || (is_plain_unit u && not l.fine) then bs else written_or bs l.negative (size_at u k n l)
 
 -- a field of lengths
 abbrev pub length_field : Unit → Kind → ℕ → List ℕ → Lone → List ℕ
-length_field u k n bs l = if is_lone l then number_field u k n bs l else expression_field u bs
+length_field u k n bs l = if is_lone l then number_field u k n bs l else expression_field (unit_of k n u) bs
 
 -- a field of a sensor's definition, of which the width of its tip alone is looked at: in another unit than the language's all its numbers are put as lengths
 abbrev pub sensor_field : Bool → Unit → ℕ → List ℕ → List ℕ
@@ -168,24 +181,24 @@ abbrev pub unit_behind : Bool → Place → List ℕ → Unit
 unit_behind several p bs =
     if several && (is_units p.kind && (p.first && not p.broken)) then found_or p.unit (unit_named (word_of bs)) else p.unit
 
--- one more number, of which the first three count
+-- behind a word as many numbers as before it stand above, and behind any other field one more, of which the first three count
 abbrev pub counted : Bool → ℕ → ℕ
-counted true n = if nat_lt n 3 then suc n else n
-counted false n = n
+counted true n = n
+counted false n = if nat_lt n 3 then suc n else n
 
--- whether a field is the word behind which a place is polar
-abbrev pub is_polar_word : List ℕ → Bool
-is_polar_word bs = bytes_eq (word_of bs) (codes "POL")
+-- whether a field is this word
+abbrev pub is_word : List ℕ → List ℕ → Bool
+is_word word bs = bytes_eq (word_of bs) word
 
 -- what a statement's numbers are behind a field
 abbrev pub kind_behind : Kind → List ℕ → Kind
-kind_behind kind.Places bs = if is_polar_word bs then kind.Polar else kind.Places
+kind_behind kind.Places bs = if is_word (codes "POL") bs then kind.Polar else if is_word (codes "INCR") bs then kind.Step else kind.Places
 kind_behind k bs = k
 
 -- the next field
 abbrev pub next_field : Bool → Place → List ℕ → Place
 next_field several p bs =
-    record p { kind = kind_behind p.kind bs; first = false; numbers = counted (is_lone (lone_from unread bs)) p.numbers; broken = false; unit = unit_behind several p bs }
+    record p { kind = kind_behind p.kind bs; first = false; numbers = counted (is_kept_word bs) p.numbers; broken = false; unit = unit_behind several p bs }
 
 -- whether a field has nothing but blanks
 abbrev pub is_blank_field : List ℕ → Bool

@@ -1,11 +1,12 @@
 -- Worked examples: fields of expressions with numbers that have more than three decimals, computed.
 use Rattle.std.specs.Prelude.{◌≡◌, refl, ℕ, true, false, List, [], ◌∷◌, ◌++◌, codes}
 use Rattle.std.specs.Fmt.{digits}
-use Rattle.vcm_plain.specs.declared.unit.Unit.TheVariants.{Millimetre, Inch}
+use Rattle.vcm_plain.specs.declared.unit.Unit.TheVariants.{Millimetre, Inch, Foot}
 use Rattle.vcm_functions.specs.Values.{root}
 use Rattle.vcm_functions.specs.Calls.{pass}
 use Rattle.vcm_functions.specs.Relations.{opened_text}
 use Rattle.vcm_functions.specs.Folded.{has_function}
+use Rattle.vcm_plain.specs.Numbers.{unread, lone_from, component}
 use Rattle.vcm_plain.specs.Fine.{exact_text, has_fine}
 use Rattle.vcm_plain.specs.Units.{all_in, from_unit}
 use Rattle.vcm_plain.specs.Plain.{plain}
@@ -133,6 +134,48 @@ pub in_two_units : plain (from_unit Inch) (line (codes "UNITS/INCH,ANGDEC") ++ l
     ≡ line (codes "UNITS/MM,ANGDEC") ++ line (codes "GOTO/25.400,50.800,76.200") ++ line (codes "UNITS/MM,ANGDEC") ++ line (codes "GOTO/1,2,3")
 unfolding digits
 in_two_units = refl
+
+-- expressions of lengths in another unit are converted, words are not, and neither are directions and angles
+pub in_inches : plain (all_in Inch) (line (codes "PTMEAS/CART,X,Y+1,1.5,0,0,1")) ≡ line (codes "PTMEAS/CART,(X)*25.4,(Y+1)*25.4,38.100,0.000,0.000,1.000")
+unfolding digits has_function
+in_inches = refl
+
+pub shifted_in_feet : plain (all_in Foot) (line (codes "D(A)=TRANS/XORIG,2*R,ZORIG,1")) ≡ line (codes "D(A)=TRANS/XORIG,(2*R)*304.8,ZORIG,304.800")
+unfolding digits has_function
+shifted_in_feet = refl
+
+pub stepped : plain (all_in Inch) (line (codes "GOTO/INCR,2,0,-1,0")) ≡ line (codes "GOTO/INCR,50.800,0.000,-1.000,0.000")
+unfolding digits
+stepped = refl
+
+pub turned : plain (all_in Inch) (line (codes "GOTO/POL,2,45,1")) ≡ line (codes "GOTO/POL,50.800,45,25.400")
+unfolding digits
+turned = refl
+
+pub plane : plain (all_in Inch) (line (codes "F(A)=FEAT/PLANE,CART,1,2,3,0,0,1")) ≡ line (codes "F(A)=FEAT/PLANE,CART,25.400,50.800,76.200,0.000,0.000,1.000")
+unfolding digits
+plane = refl
+
+-- a small component of a direction counts from 0.00004 on
+abbrev component_of : List ℕ → ℕ
+component_of bs = component (lone_from unread bs)
+
+pub along_an_axis : component_of (codes "-0.000039") ≡ 0
+along_an_axis = refl
+
+pub slanted : component_of (codes "0.00004") ≡ 1
+slanted = refl
+
+pub leaning : component_of (codes "0.0003") ≡ 1
+leaning = refl
+
+pub nearest : component_of (codes "-0.57735") ≡ 577
+nearest = refl
+
+-- a field that is broken in two isn't converted
+pub broken_in_inches : plain (all_in Inch) (codes "GOTO/X$" ++ 10 ∷ codes "+1,2,3") ≡ codes "GOTO/*X$" ++ 10 ∷ codes "*+1,50.800,76.200"
+unfolding digits
+broken_in_inches = refl
 
 pub silent : plain (all_in Millimetre) (line (codes "T(A)=TOL/POS,0.0125")) ≡ line (codes "T(A)=TOL/POS,0.0125")
 silent = refl

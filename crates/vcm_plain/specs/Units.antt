@@ -20,6 +20,14 @@ micrometres Metre = 1000000
 micrometres Inch = 25400
 micrometres Foot = 304800
 
+-- an expression behind which this stands is one of millimetres
+abbrev pub factor : Unit → List ℕ
+factor Millimetre = []
+factor Centimetre = codes "*10"
+factor Metre = codes "*1000"
+factor Inch = codes "*25.4"
+factor Foot = codes "*304.8"
+
 -- the unit that a word of UNITS names
 abbrev pub unit_named : List ℕ → Option Unit
 unit_named word = look_up

@@ -1,7 +1,7 @@
 //! Numbers that stand alone in a field.
 
 ghost use Rattle.std.specs.Prelude.{◌≡◌, ◌++◌, ◌<◌, ◌≤◌, OnOk, IsTrue, true};
-ghost use Rattle.vcm_plain.specs.Numbers.{unread, bad, whole_behind, part_behind, digit_behind, point_behind, sign_behind, is_space, lone_behind, lone_from, is_lone, power, rounded, minus_of, written, written_or, millionths, millionths_in};
+ghost use Rattle.vcm_plain.specs.Numbers.{unread, bad, whole_behind, part_behind, digit_behind, point_behind, sign_behind, is_space, lone_behind, lone_from, is_lone, power, rounded, in_millionths, component, minus_of, written, written_or, millionths, millionths_in};
 
 use vcm_num::{NoMemory, write_thousandths};
 
@@ -185,14 +185,35 @@ pub(crate) fn power(places: u32) -> u64
     }
 }
 
-// The micrometres of a number, where its unit has so many, to the nearest one.
-fn rounded(unit: u64, lone: Lone) -> u64
+/// The micrometres of a number, where its unit has so many, to the nearest one.
+pub(crate) fn rounded(unit: u64, lone: Lone) -> u64
     requires value { lone.value < 1000000000000 }
     requires unit { unit ≤ 1000000 }
     ensures { result ≡ rounded unit lone }
 {
     let power = power(lone.places);
     (2 * (lone.value * unit) + power) / (2 * power)
+}
+
+// How many millionths a number has, without its sign.
+fn in_millionths(lone: Lone) -> u64
+    requires { lone.value < 1000000000000 }
+    ensures { result ≡ in_millionths lone }
+{
+    lone.value * power(MOST_PLACES.saturating_sub(lone.places))
+}
+
+/// The thousandths of a component of a direction, to the nearest one; none only where it is below 0.00004.
+pub(crate) fn component(lone: Lone) -> u64
+    requires { lone.value < 1000000000000 }
+    ensures { result ≡ component lone }
+{
+    let nearest = rounded(1_000, lone);
+    if nearest == 0 && in_millionths(lone) >= 40 {
+        1
+    } else {
+        nearest
+    }
 }
 
 /// Whether a field is a number that isn't too large.
@@ -213,32 +234,29 @@ fn put_length(negative: bool, length: u64, out: &mut Vec<u8>) -> Result<(), NoMe
     write_thousandths(length as i64, out)
 }
 
-/// Appends a number as a length of this unit, in millimetres with three decimals; the field as it is where it is too large.
-pub(crate) fn put_lone(
+/// Appends so many thousandths, with three decimals; the field as it is where they are too many.
+pub(crate) fn put_size(
     field: &[u8],
-    unit: u64,
-    lone: Lone,
+    negative: bool,
+    size: u64,
     out: &mut Vec<u8>,
 ) -> Result<(), NoMemory>
-    requires value { lone.value < 1000000000000 }
-    requires unit { unit ≤ 1000000 }
-    ensures { OnOk result (out.new.items ≡ out.old.items ++ written_or field.now lone.negative (rounded unit lone)) }
+    ensures { OnOk result (out.new.items ≡ out.old.items ++ written_or field.now negative size) }
 {
-    let length = rounded(unit, lone);
-    if length < MOST_LENGTH {
-        put_length(lone.negative, length, out)
+    if size < MOST_LENGTH {
+        put_length(negative, size, out)
     } else {
         out.extend_from_slice(field)?;
         Ok(())
     }
 }
 
-// How many millionths a number has, without its sign.
+// The same, none where it is no number.
 fn millionths(lone: Lone) -> Option<u64>
     ensures { result ≡ millionths lone }
 {
     if is_lone(lone) {
-        Some(lone.value * power(MOST_PLACES.saturating_sub(lone.places)))
+        Some(in_millionths(lone))
     } else {
         None
     }

@@ -2,10 +2,11 @@
 
 ghost use Rattle.std.specs.Prelude.{◌≡◌, ◌++◌, ◌∷◌, [], ◌≤◌, ◌<◌, ℕ, List, true, OnOk, IfOk, drop};
 ghost use Rattle.vcm_plain.specs.Numbers.{unread, lone_from, is_lone, is_space};
-ghost use Rattle.vcm_plain.specs.Plain.{Reading, start, word_of, kind_of, is_plain_unit, head_out, is_kind_word, is_setting_word, is_kept, is_kept_word, other_field, plain_expression, expression_field, value_field, unit_at, is_angle, number_field, length_field, sensor_field, is_unit_field, units_field, is_units, unit_behind, field_by, field_out, counted, kind_behind, next_field, is_blank_field, onto, wrote, head_behind, head_dollar_behind, fields_behind, broken_place, broken_out, fields_dollar_behind, text_behind, comment_behind, broken_behind, field_text_behind, read_behind, read_from, nothing_read, last_out, written_out, plain};
+ghost use Rattle.vcm_plain.specs.declared.plain.Kind.TheVariants as kinds;
+ghost use Rattle.vcm_plain.specs.Plain.{Reading, start, word_of, kind_of, is_plain_unit, head_out, is_kind_word, is_setting_word, is_kept, is_kept_word, other_field, plain_expression, converted, expression_field, value_field, is_direction, is_angle, unit_of, size_at, number_field, length_field, sensor_field, is_unit_field, units_field, is_units, unit_behind, field_by, field_out, counted, is_word, kind_behind, next_field, is_blank_field, onto, wrote, head_behind, head_dollar_behind, fields_behind, broken_place, broken_out, fields_dollar_behind, text_behind, comment_behind, broken_behind, field_text_behind, read_behind, read_from, nothing_read, last_out, written_out, plain};
 
 use crate::fine::put_exact;
-use crate::lone::{Lone, is_lone, lone_of, put_lone};
+use crate::lone::{Lone, component, is_lone, lone_of, put_size, rounded};
 use crate::unit::{Lengths, Unit};
 use std::alloc::Global;
 use std::marker::Model;
@@ -46,6 +47,8 @@ pub enum Kind {
     Places,
     /// The same, by a radius, an angle and a height.
     Polar,
+    /// A distance, and a direction behind it.
+    Step,
     /// Lengths, all of them.
     Lengths,
     /// Values, by expressions.
@@ -61,7 +64,7 @@ pub struct Place {
     pub kind: Kind,
     /// Whether no field of the statement ends above.
     pub first: bool,
-    /// How many numbers stand in its fields above; the fourth isn't counted.
+    /// How many of its fields above are no words; the fourth isn't counted.
     pub numbers: u8,
     /// Whether the field begins in a line above.
     pub broken: bool,
@@ -167,6 +170,7 @@ fn is_kind_word(word: &[u8]) -> bool
             (b"POL", true),
             (b"INCR", true),
             (b"POINT", true),
+            (b"PLANE", true),
             (b"XORIG", true),
             (b"YORIG", true),
             (b"ZORIG", true),
@@ -209,7 +213,7 @@ fn is_kept_word(alloc: Global, bytes: &[u8]) -> Result<bool, NoMemory>
     Ok(is_kept(&word))
 }
 
-// Appends a field that is no number.
+// Appends a piece of a field that is broken in two.
 fn put_other(alloc: Global, unit: Unit, bytes: &[u8], out: &mut Vec<u8>) -> Result<(), NoMemory>
     ensures { OnOk result (out.new.items ≡ out.old.items ++ other_field unit bytes.now) }
 {
@@ -228,6 +232,17 @@ fn put_plain(alloc: Global, bytes: &[u8], out: &mut Vec<u8>) -> Result<(), NoMem
     put_exact(alloc, &folded, out)
 }
 
+// Appends an expression of lengths in this unit, as one of millimetres.
+fn put_converted(alloc: Global, unit: Unit, bytes: &[u8], out: &mut Vec<u8>) -> Result<(), NoMemory>
+    ensures { OnOk result (out.new.items ≡ out.old.items ++ converted unit bytes.now) }
+{
+    out.push(b'(')?;
+    put_plain(alloc, bytes, out)?;
+    out.push(b')')?;
+    out.extend_from_slice(unit.factor())?;
+    Ok(())
+}
+
 // Appends a field that is an expression, or a word.
 fn put_expression(
     alloc: Global,
@@ -238,20 +253,23 @@ fn put_expression(
     ensures { OnOk result (out.new.items ≡ out.old.items ++ expression_field unit bytes.now) }
 {
     if is_plain_unit(unit) {
-        put_plain(alloc, bytes, out)
-    } else {
-        put_other(alloc, unit, bytes, out)
+        return put_plain(alloc, bytes, out);
     }
+    if is_kept_word(alloc, bytes)? {
+        out.extend_from_slice(bytes)?;
+        return Ok(());
+    }
+    put_converted(alloc, unit, bytes, out)
 }
 
-// How many micrometres one of a statement's numbers has, behind so many of them.
-fn unit_at(kind: Kind, numbers: u8, unit: Unit) -> u64
-    ensures is { result ≡ unit_at kind numbers unit }
-    ensures most { result ≤ 1000000 }
+// Whether one of a statement's numbers, behind so many of them, is of a direction.
+fn is_direction(kind: Kind, numbers: u8) -> bool
+    ensures { result ≡ is_direction kind numbers }
 {
     match kind {
-        Kind::Places | Kind::Polar if numbers >= 3 => 1_000,
-        _ => unit.micrometres(),
+        Kind::Places | Kind::Polar => numbers >= 3,
+        Kind::Step => numbers != 0,
+        _ => false,
     }
 }
 
@@ -262,6 +280,29 @@ fn is_angle(kind: Kind, numbers: u8) -> bool
     match kind {
         Kind::Polar => numbers == 1,
         _ => false,
+    }
+}
+
+// The unit that it has.
+fn unit_of(kind: Kind, numbers: u8, unit: Unit) -> Unit
+    ensures { result ≡ unit_of kind numbers unit }
+{
+    if is_direction(kind, numbers) || is_angle(kind, numbers) {
+        Unit::Millimetre
+    } else {
+        unit
+    }
+}
+
+// A number in whole micrometres, or in thousandths.
+fn size_at(unit: Unit, kind: Kind, numbers: u8, lone: Lone) -> u64
+    requires { lone.value < 1000000000000 }
+    ensures { result ≡ size_at unit kind numbers lone }
+{
+    if is_direction(kind, numbers) {
+        component(lone)
+    } else {
+        rounded(unit.micrometres(), lone)
     }
 }
 
@@ -281,7 +322,8 @@ fn put_number(
         out.extend_from_slice(bytes)?;
         Ok(())
     } else {
-        put_lone(bytes, unit_at(kind, numbers, unit), lone, out)
+        let size = size_at(unit, kind, numbers, lone);
+        put_size(bytes, lone.negative, size, out)
     }
 }
 
@@ -293,7 +335,8 @@ fn put_lengths(alloc: Global, place: Place, bytes: &[u8], out: &mut Vec<u8>) -> 
     if is_lone(lone) {
         put_number(place.unit, place.kind, place.numbers, bytes, lone, out)
     } else {
-        put_expression(alloc, place.unit, bytes, out)
+        let unit = unit_of(place.kind, place.numbers, place.unit);
+        put_expression(alloc, unit, bytes, out)
     }
 }
 
@@ -386,7 +429,7 @@ fn put_field(
         Kind::Sensor => put_sensor(place, bytes, out),
         Kind::Units => put_units(alloc, several, place, bytes, out),
         Kind::Values => put_value(alloc, place.broken, bytes, out),
-        Kind::Places | Kind::Polar | Kind::Lengths => {
+        Kind::Places | Kind::Polar | Kind::Step | Kind::Lengths => {
             if place.broken {
                 put_other(alloc, place.unit, bytes, out)
             } else {
@@ -396,19 +439,46 @@ fn put_field(
     }
 }
 
+// Whether a field is this word.
+fn is_word(alloc: Global, word: &[u8], bytes: &[u8]) -> Result<bool, NoMemory>
+    ensures { IfOk result (λ it. it ≡ is_word word.now bytes.now) }
+{
+    let own = word_of(alloc, bytes)?;
+    Ok(is(&own, word))
+}
+
+// What the numbers of a place are behind a field.
+fn behind_place(alloc: Global, bytes: &[u8]) -> Result<Kind, NoMemory>
+    ensures { IfOk result (λ k. k ≡ kind_behind kinds.Places bytes.now) }
+{
+    if is_word(alloc, b"POL", bytes)? {
+        return Ok(Kind::Polar);
+    }
+    if is_word(alloc, b"INCR", bytes)? {
+        Ok(Kind::Step)
+    } else {
+        Ok(Kind::Places)
+    }
+}
+
 // What a statement's numbers are behind a field.
 fn kind_behind(alloc: Global, kind: Kind, bytes: &[u8]) -> Result<Kind, NoMemory>
     ensures { IfOk result (λ k. k ≡ kind_behind kind bytes.now) }
 {
     match kind {
-        Kind::Places => {
-            if is(&word_of(alloc, bytes)?, b"POL") {
-                Ok(Kind::Polar)
-            } else {
-                Ok(Kind::Places)
-            }
-        }
+        Kind::Places => behind_place(alloc, bytes),
         _ => Ok(kind),
+    }
+}
+
+// How many fields that are no words stand above, behind one more field.
+fn counted(word: bool, numbers: u8) -> u8
+    ensures { result ≡ counted word numbers }
+{
+    if !word && numbers < 3 {
+        numbers + 1
+    } else {
+        numbers
     }
 }
 
@@ -416,15 +486,11 @@ fn kind_behind(alloc: Global, kind: Kind, bytes: &[u8]) -> Result<Kind, NoMemory
 fn next_field(alloc: Global, several: bool, place: Place, bytes: &[u8]) -> Result<Place, NoMemory>
     ensures { IfOk result (λ p. p ≡ next_field several place bytes.now) }
 {
-    let numbers = if is_lone(lone_of(bytes)) && place.numbers < 3 {
-        place.numbers + 1
-    } else {
-        place.numbers
-    };
+    let word = is_kept_word(alloc, bytes)?;
     Ok(Place {
         kind: kind_behind(alloc, place.kind, bytes)?,
         first: false,
-        numbers,
+        numbers: counted(word, place.numbers),
         broken: false,
         unit: unit_behind(alloc, several, place, bytes)?,
         ..place

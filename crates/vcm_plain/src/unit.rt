@@ -1,7 +1,7 @@
 //! The unit of a text.
 
 ghost use Rattle.std.specs.Prelude.{◌≡◌, ◌≤◌, ◌<◌, suc, Some, None, true};
-ghost use Rattle.vcm_plain.specs.Units.{micrometres, unit_named, is_units, is_silent, set_by, opens_with, opening_unit, agrees, all_agree, is_passed, begins_block, ends_block, bends, depth_behind, is_straight, straight_from, all_in, lengths_if, lengths_of};
+ghost use Rattle.vcm_plain.specs.Units.{micrometres, factor, unit_named, is_units, is_silent, set_by, opens_with, opening_unit, agrees, all_agree, is_passed, begins_block, ends_block, bends, depth_behind, is_straight, straight_from, all_in, lengths_if, lengths_of};
 ghost use Rattle.vcm_heads.specs.Rows.{words_of, row_in};
 ghost use Rattle.vcm_heads.specs.Heads.{behind_of, major_of, first_field};
 
@@ -22,7 +22,8 @@ pub enum Unit {
 impl Unit {
     /// How many micrometres it has.
     pub fn micrometres(self) -> u64
-        ensures { result ≡ micrometres self }
+        ensures is { result ≡ micrometres self }
+        ensures most { result ≤ 1000000 }
     {
         match self {
             Unit::Millimetre => 1_000,
@@ -30,6 +31,19 @@ impl Unit {
             Unit::Metre => 1_000_000,
             Unit::Inch => 25_400,
             Unit::Foot => 304_800,
+        }
+    }
+
+    /// An expression behind which this stands is one of millimetres.
+    pub(crate) fn factor(self) -> &'static [u8]
+        ensures { result.now ≡ factor self }
+    {
+        match self {
+            Unit::Millimetre => b"",
+            Unit::Centimetre => b"*10",
+            Unit::Metre => b"*1000",
+            Unit::Inch => b"*25.4",
+            Unit::Foot => b"*304.8",
         }
     }
 

@@ -5,7 +5,8 @@ ghost use Rattle.vcm_console.specs.Replies.{ReplyFits};
 ghost use Rattle.vcm_debug.specs.Debugging.{now};
 
 use crate::places::{write_position, write_source};
-use crate::words::{HELP, Own, cut_word, number, own_word};
+use crate::whole::exchanged_whole;
+use crate::words::{HELP, HELP_WHOLE, Own, cut_word, number, own_word};
 use itoa::Buffer;
 use std::alloc::Global;
 use std::io::Write;
@@ -14,11 +15,15 @@ use vcm_loader::Loaded;
 use vcm_motion::Part;
 use vcm_num::{WriteFault, write_all, write_pieces};
 
-/// The text of the program, if the input is one.
-pub(crate) type Source<'a> = Option<&'a [u8]>;
+/// The text of the program, if the input is one, and whether it is a producer's text as it stands.
+#[derive(Clone, Copy)]
+pub(crate) struct Source<'a> {
+    pub(crate) text: Option<&'a [u8]>,
+    pub(crate) is_whole: bool,
+}
 
-// No run has as many steps.
-const MOST_STEPS: u64 = 1 << 62;
+/// No run has as many steps.
+pub(crate) const MOST_STEPS: u64 = 1 << 62;
 
 // What a session answers to a line.
 fn told_of<P: Part>(
@@ -49,8 +54,8 @@ fn write_told<P: Part, W: Write>(
     }
 }
 
-// Answers a line, and gives the reply.
-fn exchanged<P: Part, W: Write>(
+/// Answers a line, and gives the reply.
+pub(crate) fn exchanged<P: Part, W: Write>(
     alloc: Global,
     session: &mut Session<'_, P>,
     line: &[u8],
@@ -86,7 +91,7 @@ fn write_standing_line<P: Part, W: Write>(
     line: u32,
     writer: &mut W,
 ) -> Result<(), WriteFault> {
-    match source {
+    match source.text {
         Some(text) => write_source(text, line, writer),
         None => session.write_next(writer),
     }
@@ -100,17 +105,22 @@ fn answer_command<P: Part, W: Write>(
     line: &[u8],
     writer: &mut W,
 ) -> Result<bool, WriteFault> {
-    let told = exchanged(alloc, session, line, writer)?;
+    let told = if source.is_whole {
+        exchanged_whole(alloc, session, line, writer)?
+    } else {
+        let told = exchanged(alloc, session, line, writer)?;
+        told.ok()
+    };
     match told {
-        Ok(Reply::Bye) => Ok(true),
-        Ok(reply) => match line_of(reply) {
+        Some(Reply::Bye) => Ok(true),
+        Some(reply) => match line_of(reply) {
             Some(line) => {
                 write_standing_line(session, source, line, writer)?;
                 Ok(false)
             }
             None => Ok(false),
         },
-        Err(_) => Ok(false),
+        None => Ok(false),
     }
 }
 
@@ -187,16 +197,27 @@ fn answer_breakpoints<P: Part, W: Write>(
     }
 }
 
+// Writes the words that may be typed.
+fn write_help<W: Write>(is_whole: bool, writer: &mut W) -> Result<(), WriteFault> {
+    write_all(writer, HELP)?;
+    if is_whole {
+        write_all(writer, HELP_WHOLE)
+    } else {
+        Ok(())
+    }
+}
+
 // Answers a word of the front.
 fn answer_own<P: Part, W: Write>(
     session: &mut Session<'_, P>,
     own: Own,
+    is_whole: bool,
     behind: &[u8],
     writer: &mut W,
 ) -> Result<(), WriteFault> {
     let (word, _) = cut_word(behind);
     match own {
-        Own::Help => write_all(writer, HELP),
+        Own::Help => write_help(is_whole, writer),
         Own::BreakAt => answer_line(session, word, true, writer),
         Own::ClearAt => answer_line(session, word, false, writer),
         Own::Breakpoints => answer_breakpoints(session, writer),
@@ -215,7 +236,7 @@ pub(crate) fn answer<P: Part, W: Write>(
     let (word, behind) = cut_word(line);
     match own_word(word) {
         Some(own) => {
-            answer_own(session, own, behind, writer)?;
+            answer_own(session, own, source.is_whole, behind, writer)?;
             Ok(false)
         }
         None => answer_command(alloc, session, source, line, writer),

@@ -1,11 +1,11 @@
 //! Conversations on programs and images.
 
 use crate::answering::Source;
-use crate::talking::{Prompts, talk};
+use crate::talking::{Prompts, serve_plain, talk};
 use std::alloc::Global;
 use std::io::{Read, Write};
 use vcm_debug::Session;
-use vcm_job::{DebugFault, SessionFault, given_of, session_fault};
+use vcm_job::{DebugFault, Given, SessionFault, given_of, session_fault};
 use vcm_loader::load;
 use vcm_motion::AnyPart;
 use vcm_part::PartData;
@@ -19,7 +19,7 @@ fn talk_of<R: Read, W: Write, E: Prompts>(
     source: Source<'_>,
     reader: &mut R,
     replies: &mut W,
-    prompts: &E,
+    prompts: Option<&E>,
 ) -> Result<(), DebugFault> {
     let loaded = match load(alloc, image) {
         Ok(loaded) => loaded,
@@ -31,7 +31,10 @@ fn talk_of<R: Read, W: Write, E: Prompts>(
     let Ok(mut session) = Session::new(alloc, &loaded, &workpiece) else {
         return Err(DebugFault::NoMemory);
     };
-    let talked = talk(alloc, &mut session, source, reader, replies, prompts);
+    let talked = match prompts {
+        Some(prompts) => talk(alloc, &mut session, source, reader, replies, prompts),
+        None => serve_plain(alloc, &mut session, reader, replies),
+    };
     drop(session);
     match talked {
         Ok(()) => Ok(()),
@@ -56,16 +59,46 @@ pub fn debug_by_hand<R: Read, W: Write, E: Prompts>(
         Ok(given) => given,
         Err(fault) => return Err(session_fault(fault)),
     };
-    let source = match &given.text {
+    let text = match &given.text {
         Some(text) => Some(text.as_slice()),
         None => None,
     };
-    match talk_of(alloc, part, &given.image, source, reader, replies, prompts) {
+    let source = Source {
+        text,
+        is_whole: false,
+    };
+    let image = given.image.as_slice();
+    match talk_of(alloc, part, image, source, reader, replies, Some(prompts)) {
         Ok(()) => Ok(given.notices),
         // An image that was built is refused for want of memory alone.
         Err(DebugFault::Refused(SessionFault::Image(_))) if given.text.is_some() => Err(
             DebugFault::NoMemory,
         ),
+        Err(fault) => Err(fault),
+    }
+}
+
+/// Opens a session of the debugger on what a producer's text is put as, beside a workpiece, and answers lines up to `quit` or their end: with a prompt before each, and
+/// what is typed short, where there are prompts, else as they stand. Two words more are answered there: `over` and `known`.
+///
+/// Errors: see `DebugFault`.
+pub fn debug_whole<R: Read, W: Write, E: Prompts>(
+    alloc: Global,
+    part: &PartData,
+    given: &Given,
+    text: &[u8],
+    reader: &mut R,
+    replies: &mut W,
+    prompts: Option<&E>,
+) -> Result<(), DebugFault> {
+    let source = Source {
+        text: Some(text),
+        is_whole: true,
+    };
+    match talk_of(alloc, part, &given.image, source, reader, replies, prompts) {
+        Ok(()) => Ok(()),
+        // An image that was built is refused for want of memory alone.
+        Err(DebugFault::Refused(SessionFault::Image(_))) => Err(DebugFault::NoMemory),
         Err(fault) => Err(fault),
     }
 }

@@ -1,11 +1,12 @@
 //! The conversation: a prompt, a line, its answer.
 
 use crate::answering::{Source, answer};
+use crate::whole::exchanged_whole;
 use crate::words::long_line;
 use std::alloc::Global;
 use std::io::{Read, Write};
 use vcm_console::{RawLine, read_line};
-use vcm_debug::{ServeFault, Session};
+use vcm_debug::{Reply, ServeFault, Session};
 use vcm_motion::Part;
 use vcm_num::write_all;
 
@@ -91,6 +92,43 @@ pub(crate) fn talk<P: Part, R: Read, W: Write, E: Prompts>(
         };
         left = left.saturating_sub(line.used);
         if exchange(alloc, session, source, content(&line), &mut last, replies)? {
+            return Ok(());
+        }
+    }
+    Err(ServeFault::TooMuch)
+}
+
+// Answers a line that is read through a pipe, and tells whether that ends the session.
+fn exchange_plain<P: Part, W: Write>(
+    alloc: Global,
+    session: &mut Session<'_, P>,
+    line: &[u8],
+    replies: &mut W,
+) -> Result<bool, ServeFault> {
+    if line.is_empty() {
+        return Ok(false);
+    }
+    let Ok(told) = exchanged_whole(alloc, session, line, replies) else {
+        return Err(ServeFault::Write);
+    };
+    say(b"", replies)?;
+    Ok(matches!(told, Some(Reply::Bye)))
+}
+
+/// Reads lines of a session on a producer's text, and answers them as they stand, up to `quit` or the end of the input.
+pub(crate) fn serve_plain<P: Part, R: Read, W: Write>(
+    alloc: Global,
+    session: &mut Session<'_, P>,
+    reader: &mut R,
+    replies: &mut W,
+) -> Result<(), ServeFault> {
+    let mut left = MAX_BYTES;
+    for _ in 0..MAX_LINES {
+        let Some(line) = next_line(reader, left)? else {
+            return say(b"bye\n", replies);
+        };
+        left = left.saturating_sub(line.used);
+        if exchange_plain(alloc, session, content(&line), replies)? {
             return Ok(());
         }
     }

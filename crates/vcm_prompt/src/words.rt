@@ -36,6 +36,7 @@ enum Long {
     Feat,
     List,
     Out,
+    Over,
     Quit,
     Reverse,
     Run,
@@ -53,6 +54,7 @@ const SHORT_WORDS: &[(&[u8], Long)] = &[
     (b"l", Long::List),
     (b"n", Long::Step),
     (b"o", Long::Out),
+    (b"ov", Long::Over),
     (b"p", Long::Show),
     (b"q", Long::Quit),
     (b"r", Long::Run),
@@ -71,6 +73,7 @@ fn spelled(word: Long) -> &'static [u8] {
         Long::Feat => b"feat",
         Long::List => b"list",
         Long::Out => b"out",
+        Long::Over => b"over",
         Long::Quit => b"quit",
         Long::Reverse => b"reverse",
         Long::Run => b"run",
@@ -96,6 +99,11 @@ l [N]       list            o [N]       out: the last output lines
 line LINE   the statement of a source line
 q           quit
 An empty line repeats the last command.
+";
+
+/// What it prints besides of a producer's text.
+pub(crate) const HELP_WHOLE: &[u8] =
+    b"ov [N]      over: to another source line, N times; known: what is known there
 ";
 
 /// What the front answers by itself to a word.
@@ -129,8 +137,8 @@ pub(crate) fn cut_word(line: &[u8]) -> (&[u8], &[u8]) {
     cut(rest, word_len(rest))
 }
 
-// One text behind another.
-fn joined(alloc: Global, front: &[u8], back: &[u8]) -> Result<Vec<u8>, NoMemory> {
+/// One text behind another.
+pub(crate) fn joined(alloc: Global, front: &[u8], back: &[u8]) -> Result<Vec<u8>, NoMemory> {
     let mut whole = Vec::new(alloc);
     whole.extend_from_slice(front)?;
     whole.extend_from_slice(back)?;

@@ -15,6 +15,7 @@ use Rattle.vcm_heads.specs.declared.rows.Row.{Row}
 use Rattle.vcm_heads.specs.declared.rows.Row.TheVariants as row
 use Rattle.vcm_events.specs.declared.event.Event.TheVariants.{CaseValue, CaseBegins}
 use Rattle.vcm_events.specs.Events.{event_form, gained}
+use Rattle.vcm_compared.specs.Puts.{is_text_case}
 use Rattle.vcm_said.specs.declared.cases.TheConstants.{MOST_OTHERS}
 use Rattle.vcm_said.specs.Places.{expression_at, is_minus}
 
@@ -50,9 +51,15 @@ values_in fields = do
   vs ← values_onto MOST_OTHERS [] v.1
   Some (v.0, vs)
 
+-- values that were found, or else 0 in place of texts, which have no number here
+abbrev pub values_or : Option (ℤ × List ℤ) → Bool → Option (ℤ × List ℤ)
+values_or (Some v) texts = Some v
+values_or None true = Some (pos 0, [])
+values_or None false = None
+
 -- the values of a CASE
 abbrev pub values_of : List Lexeme → Option (ℤ × List ℤ)
-values_of ws = if bytes_eq (major_of ws) (codes "CASE") then values_in (past marks.Slash (behind_of ws)) else None
+values_of ws = if bytes_eq (major_of ws) (codes "CASE") then values_or (values_in (past marks.Slash (behind_of ws))) (is_text_case ws) else None
 
 -- one value more of a CASE
 abbrev pub case_value : ℤ → Form
@@ -68,7 +75,7 @@ abbrev pub case_said : Option Form → Option (ℤ × List ℤ) → List Form
 case_said (Some f) ns = f ∷ gained CaseBegins ∷ []
 case_said None ns = several ns
 
--- whether a statement that is none of the language is refused: it shapes the program, and is no CASE of several values
+-- whether a statement that is none of the language is refused: it shapes the program, and is no CASE of several values or of texts
 abbrev pub is_shaping : Row → List Lexeme → Bool
 is_shaping row.Shape ws = true
 is_shaping row.Case ws = not (is_some (values_of ws))

@@ -1,9 +1,10 @@
 -- What each statement of a producer's text says.
-use Rattle.std.specs.Prelude.{ℕ, pos, codes, Bool, true, false, if◌then◌else◌, List, [], ◌∷◌, Option, Some, None, Result, Ok, Err, ◌++◌, ◌||◌, ◌&&◌}
+use Rattle.std.specs.Prelude.{ℕ, pos, codes, Bool, true, false, is_some, if◌then◌else◌, List, [], ◌∷◌, Option, Some, None, Result, Ok, Err, ◌++◌, ◌||◌, ◌&&◌}
 use Rattle.std.specs.List.{list_any}
 use Rattle.std.specs.Str.{bytes_eq}
 use Rattle.vcm_num.specs.declared.axis.Axis.{Axis}
 use Rattle.vcm_num.specs.declared.axis.Axis.TheVariants.{PlusZ}
+use Rattle.vcm_num.specs.declared.number.Kind.TheVariants as kinds
 use Rattle.vcm_num.specs.declared.number.Literal.TheVariants.{Int}
 use Rattle.vcm_spec.specs.declared.words.FrameAxis.TheVariants as axes
 use Rattle.vcm_spec.specs.declared.words.Setting.TheVariants.{Depth}
@@ -23,7 +24,7 @@ use Rattle.vcm_forms.specs.declared.statement.Argument.{Argument}
 use Rattle.vcm_forms.specs.declared.statement.Coordinates.{Coordinates}
 use Rattle.vcm_forms.specs.declared.statement.Rounds.{Rounds}
 use Rattle.vcm_forms.specs.declared.statement.Form.{Form}
-use Rattle.vcm_forms.specs.declared.statement.Form.TheVariants.{Assignment, Test, Repeat, Choose, Call, Feature, Measure, MeasureEnd, Configure, Shift, Restore, Report}
+use Rattle.vcm_forms.specs.declared.statement.Form.TheVariants.{Declaration, Assignment, Test, Repeat, Choose, Call, Feature, Measure, MeasureEnd, Configure, Shift, Restore, Report}
 use Rattle.vcm_events.specs.declared.event.Event.{Event}
 use Rattle.vcm_events.specs.declared.event.Event.TheVariants as events
 use Rattle.vcm_heads.specs.declared.heads.Mark.TheVariants as marks
@@ -37,6 +38,7 @@ use Rattle.vcm_heads.specs.Rows.{row_in}
 use Rattle.vcm_events.specs.declared.spots.Spot.TheVariants as spots
 use Rattle.vcm_events.specs.Spots.{spotted}
 use Rattle.vcm_said.specs.Polar.{polar_motion, polar_touch}
+use Rattle.vcm_compared.specs.Texts.{char_at}
 use Rattle.vcm_said.specs.Cases.{values_of, case_said}
 use Rattle.vcm_said.specs.Places.{place_given, step_at, slant_at, plane_if, names_table, names_head}
 use Rattle.vcm_said.specs.Named.{deleted, stored, recalled, remade, values_said}
@@ -281,6 +283,11 @@ carried word =
     else if bytes_eq word (codes "OFF") then []
     else one (lost events.All)
 
+-- a declaration of texts declares no number as it stands
+abbrev pub texts_declared : Bool → List Form
+texts_declared true = one (Declaration kinds.Int [])
+texts_declared false = []
+
 -- ---- each statement
 
 -- what a statement says by its row: whether planes have their place and direction, the statement of the language that it is, if it is one, its line, all its words,
@@ -289,7 +296,7 @@ abbrev pub row_said : Bool → Row → Option Form → ℕ → (ws behind : List
 row_said planes row.Shape f line ws behind = stated f
 row_said planes row.Case f line ws behind = case_said f (values_of ws)
 row_said planes row.Datum f line ws behind = one (gained events.Bind)
-row_said planes row.Stated f line ws behind = stated f
+row_said planes row.Stated f line ws behind = or_said f (texts_declared (is_some (char_at ws)))
 row_said planes row.Output f line ws behind = or_said f (report_at (past marks.Slash behind))
 row_said planes row.Value f line ws behind = or_said f (value_lost (assigned_at ws))
 row_said planes row.Motion f line ws behind = or_said f (polar_or (polar_motion behind) events.PolarMotion (motion_otherwise (step_at behind) behind))

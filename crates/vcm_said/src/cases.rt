@@ -2,12 +2,13 @@
 
 ghost use Rattle.std.specs.Prelude.{◌≡◌, ◌++◌, ◌∷◌, [], map, ◌-ℤ◌, pos, Some, None, IfOk, OnOk, if◌then◌else◌};
 ghost use Rattle.vcm_said.specs.Places.{is_minus};
-ghost use Rattle.vcm_said.specs.Cases.{whole_behind, whole_in, value_at, values_onto, values_in, values_of, case_value, several};
+ghost use Rattle.vcm_said.specs.Cases.{whole_behind, whole_in, value_at, values_onto, values_in, values_or, values_of, case_value, several};
 ghost use Rattle.vcm_said.specs.All.{on_line};
 
 use crate::adding::{add, gains};
 use crate::places::{expression_at, is_minus};
 use std::alloc::Global;
+use vcm_compared::is_text_case;
 use vcm_events::{Event, numbered};
 use vcm_expr::Piece;
 use vcm_forms::{Form, Statement};
@@ -106,8 +107,14 @@ pub(crate) fn values_of(
     ensures { IfOk result (λ r. r ≡ values_of words.now) }
 {
     let (major, behind) = major_at(words);
-    if is(major, b"CASE") {
-        values_in(alloc, past(Mark::Slash, &behind))
+    if !is(major, b"CASE") {
+        return Ok(None);
+    }
+    if let Some(values) = values_in(alloc, past(Mark::Slash, &behind))? {
+        return Ok(Some(values));
+    }
+    if is_text_case(alloc, words)? {
+        Ok(Some((0, Items::new(alloc))))
     } else {
         Ok(None)
     }

@@ -1,7 +1,7 @@
 //! What each statement of a producer's text says.
 
 ghost use Rattle.std.specs.Prelude.{◌≡◌, ◌++◌, ◌∷◌, [], map, ℤ, pos, Some, None, IfOk, OnOk, option_map};
-ghost use Rattle.std.specs.Prelude.{codes, true, false, List, if◌then◌else◌};
+ghost use Rattle.std.specs.Prelude.{codes, true, false, is_some, List, if◌then◌else◌};
 ghost use Rattle.vcm_events.specs.Spots.{spotted};
 ghost use Rattle.vcm_said.specs.Polar.{polar_motion, polar_touch};
 ghost use Rattle.vcm_said.specs.Places.{place_given, step_at, slant_at, plane_if, names_table, names_head};
@@ -16,7 +16,8 @@ ghost use Rattle.vcm_events.specs.Unknown.{unknown};
 ghost use Rattle.vcm_heads.specs.declared.heads.Mark.TheVariants as marks;
 ghost use Rattle.vcm_heads.specs.Heads.{past, first_field, assigned_at, title_at, word_in, major_of};
 ghost use Rattle.vcm_heads.specs.Rows.{row_in, words_of, own_behind};
-ghost use Rattle.vcm_said.specs.Said.{wanted_in, spelled_in, stated, or_said, value_lost, answer_lost, asked_at, text_lost, call_said, feature_lost, measured_at, measure_lost, qualified, setting_said, settings_said, machine_frame, frame_lost, frame_otherwise, fitted, datum_at, recall_lost, recall_otherwise, turning, motion_otherwise, touch_otherwise, is_lone_label, is_plain_sensor, sensor_said, reported, report_at, mode_said, second_field_at, units_said, polar_said, polar_or, is_outside, switched, carried, row_said, said};
+ghost use Rattle.vcm_said.specs.Said.{wanted_in, spelled_in, stated, or_said, value_lost, answer_lost, asked_at, text_lost, call_said, feature_lost, measured_at, measure_lost, qualified, setting_said, settings_said, machine_frame, frame_lost, frame_otherwise, fitted, datum_at, recall_lost, recall_otherwise, turning, motion_otherwise, touch_otherwise, is_lone_label, is_plain_sensor, sensor_said, reported, report_at, mode_said, second_field_at, units_said, polar_said, polar_or, is_outside, switched, carried, texts_declared, row_said, said};
+ghost use Rattle.vcm_compared.specs.Texts.{char_at};
 ghost use Rattle.vcm_said.specs.Cases.{is_shaping};
 ghost use Rattle.vcm_said.specs.Named.{deleted, stored, recalled, remade, values_said};
 ghost use Rattle.vcm_said.specs.Settings.{settings_by};
@@ -31,6 +32,7 @@ use crate::polar::{polar_motion, polar_touch};
 use crate::settings::say_settings_by;
 use crate::wanted::wanted;
 use std::alloc::Global;
+use vcm_compared::char_at;
 use vcm_events::{Event, Spot, numbered, spotted, unknown, unknown_place, unknown_rounds, valued};
 use vcm_expr::{Expr, Term};
 use vcm_forms::{Coordinates, Form, Offset, Statement, Target};
@@ -40,7 +42,7 @@ use vcm_heads::{
 };
 use vcm_items::{Name, is_name, is_variable_name};
 use vcm_lines::{FaultCode, Logical, Phrase, SourceFault};
-use vcm_num::{Axis, Items, Literal, NoMemory, is};
+use vcm_num::{Axis, Items, Kind, Literal, NoMemory, is};
 use vcm_spec::{FrameAxis, Setting, Source};
 use vcm_syntax::parse_statement;
 
@@ -609,6 +611,22 @@ fn lose_values(out: &mut Vec<Statement>, line: u32, words: &Phrase<'_>) -> Resul
     say_values(out, line, major, words)
 }
 
+// A declaration of texts.
+fn say_declared(
+    alloc: Global,
+    out: &mut Vec<Statement>,
+    line: u32,
+    words: &Phrase<'_>,
+) -> Result<(), NoMemory>
+    ensures { OnOk result (out.new.items ≡ out.old.items ++ on_line line (texts_declared (is_some (char_at words.now)))) }
+{
+    if char_at(words).is_some() {
+        add(out, line, Form::Declaration(Kind::Int, Items::new(alloc)))
+    } else {
+        Ok(())
+    }
+}
+
 // A statement that is none of the language, by its row.
 fn say_otherwise(
     alloc: Global,
@@ -622,7 +640,8 @@ fn say_otherwise(
     ensures { OnOk result (out.new.items ≡ out.old.items ++ on_line line (row_said planes row None line words.now behind.now)) }
 {
     match row {
-        Row::Shape | Row::Stated | Row::Silent => Ok(()),
+        Row::Shape | Row::Silent => Ok(()),
+        Row::Stated => say_declared(alloc, out, line, words),
         Row::Case => say_several(alloc, out, line, words),
         Row::Datum => gains(out, line, Event::Bind),
         Row::Output => say_report(out, line, behind),

@@ -11,7 +11,7 @@ use Rattle.vcm_svg.specs.declared.shapes.Class.TheVariants as class
 use Rattle.vcm_svg.specs.Outlines.{outline_text}
 use Rattle.vcm_svg.specs.Pieces.{joined}
 use Rattle.vcm_svg.specs.Shapes.{class_name, path_front, path}
-use Rattle.vcm_svg.specs.Style.{width_text, widths, general, blocks, ways, edge_of, broad_if, end_text, style_text}
+use Rattle.vcm_svg.specs.Style.{notes, notes_style, width_text, widths, general, blocks, ways, edge_of, broad_if, end_text, style_text}
 use Rattle.vcm_svg.specs.declared.rect.Spot.{Spot}
 use Rattle.vcm_picture.specs.declared.view.View.{View}
 use Rattle.vcm_picture.specs.declared.view.View.TheVariants.{Top, Front, Side}
@@ -100,6 +100,7 @@ mute_class class.Approach = known (λ rest. refl)
 mute_class class.Search = known (λ rest. refl)
 mute_class class.Retract = known (λ rest. refl)
 mute_class class.Rest = known (λ rest. refl)
+mute_class class.Elsewhere = known (λ rest. refl)
 mute_class class.Touched = known (λ rest. refl)
 mute_class class.Place = known (λ rest. refl)
 mute_class class.Tip = known (λ rest. refl)
@@ -202,6 +203,11 @@ mute_end false = known (λ rest. refl)
 abbrev moves : List ℕ
 moves =
     codes "}\n.n{fill:#555}\n.p,.n{paint-order:stroke;stroke:#fff;stroke-width:3px;stroke-linejoin:round}\n.move,.approach,.search,.retract,.rest{fill:none;stroke-linecap:round}\n.move{stroke:#0072b2;stroke-width:"
+
+-- the style of lines of what wasn't tried
+pub mute_notes : (u : ℤ) → IsMute (notes_style u)
+mute_notes u =
+    mute_both (widths u notes) _ (mute_widths u notes (known (λ rest. refl), (known (λ rest. refl), (known (λ rest. refl), tt)))) (known (λ rest. refl))
 
 -- a style of these tables
 mute_tables : (u v : ℤ) (all some more : List (List ℕ × ℕ)) (texts : List ℕ) (broad : ℕ) (end : List ℕ) → AllByRecursion (λ row. IsMute row.0) all

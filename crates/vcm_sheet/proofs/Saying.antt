@@ -5,7 +5,7 @@ use Rattle.std.proofs.lemmas.List.{take_more, take_all}
 use Rattle.vcm_svg.specs.declared.rect.Spot.{Spot}
 use Rattle.vcm_svg.specs.declared.shapes.Placement.{Placement}
 use Rattle.vcm_svg.specs.declared.shapes.Lettering.{Lettering}
-use Rattle.vcm_svg.specs.declared.shapes.Lettering.TheVariants.{Plain, Heading, Number, Name}
+use Rattle.vcm_svg.specs.declared.shapes.Lettering.TheVariants.{Plain, Heading, Number, Name, Note}
 use Rattle.vcm_svg.specs.declared.legend.Sign.{Sign}
 use Rattle.vcm_svg.specs.declared.shapes.Class.{Class}
 use Rattle.vcm_svg.specs.Legend.{sign_in_row, words_label, row_text}
@@ -103,6 +103,7 @@ in_tag Plain = refl
 in_tag Heading = refl
 in_tag Number = refl
 in_tag Name = refl
+in_tag Note = refl
 
 pub text_said : (l : Placement) (w : List ℕ) → IsText l.at w (text l w)
 unfolding text_with

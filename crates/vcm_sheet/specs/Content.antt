@@ -19,7 +19,7 @@ use Rattle.vcm_sheet.specs.declared.lines.Lines.{Lines}
 use Rattle.vcm_sheet.specs.declared.points.Pointed.{Pointed}
 use Rattle.vcm_sheet.specs.declared.subject.Sheet.{Sheet}
 use Rattle.vcm_sheet.specs.declared.views.Drawing.{Drawing}
-use Rattle.vcm_sheet.specs.Heading.{files_line, position_line, lines_line, contact_line, left_out_line}
+use Rattle.vcm_sheet.specs.Heading.{files_line, position_line, lines_line, contact_line, left_out_line, untried_lines}
 use Rattle.vcm_sheet.specs.Legend.{used_in}
 use Rattle.vcm_sheet.specs.Lines.{marks_on}
 use Rattle.vcm_sheet.specs.Points.{points_on}
@@ -30,7 +30,7 @@ use Rattle.vcm_sheet.specs.Views.{Drawn, drawn_at, view_said}
 use Rattle.vcm_sheet.specs.Written.{written}
 
 -- what is filed: a workpiece, with the names of its blocks; the state at the end of a run of so many steps; the marks of its way, before which so many
--- pieces are left out; of these what comes from some source lines; and the names of the files of the program and of the part
+-- pieces are left out; of these what comes from some source lines; the names of the files of the program and of the part; and lines of what wasn't tried
 pub record Filing : Type 0 where
   pub part : Workpiece
   pub held : Held
@@ -42,6 +42,7 @@ pub record Filing : Type 0 where
   pub program_name : List ℕ
   pub part_name : List ℕ
   pub block_names : List (List ℕ)
+  pub untried : List (List ℕ)
 
 -- what a sheet is of
 abbrev pub filing : Sheet → Filing
@@ -56,6 +57,7 @@ filing s = record {
   program_name = s.program_name.now;
   part_name = s.part_name.now;
   block_names = map (λ n. n.items) s.block_names.now;
+  untried = map (λ n. n.items) s.untried.now;
 }
 
 -- what a drawing shows
@@ -91,7 +93,7 @@ abbrev pub heading : Filing → List ℕ → Option Contact → List Saying
 heading f stopped contact =
     say (stopped ∷ [])
     ∷ (files_line f.program_name f.part_name f.part.bounds.tip ++ (position_line f.held.state.position f.done ++ (lines_line f.lines
-    ++ (contact_line f.block_names contact ++ left_out_line f.left_out))))
+    ++ (contact_line f.block_names contact ++ (left_out_line f.left_out ++ untried_lines f.untried)))))
 
 -- no mark of the legend
 abbrev pub none : Used
@@ -101,6 +103,7 @@ none = record {
   search = false;
   retract = false;
   rest = false;
+  elsewhere = false;
   touched = false;
   end = false;
   home = false;

@@ -1,5 +1,5 @@
 -- What the heading of a sheet says, a line after another.
-use Rattle.std.specs.Prelude.{ℕ, pos, nat_eq, if◌then◌else◌, List, [], ◌∷◌, Option, Some, None, decimal, codes}
+use Rattle.std.specs.Prelude.{ℕ, pos, nat_eq, if◌then◌else◌, List, [], ◌∷◌, flat_map, take, Option, Some, None, decimal, codes}
 use Rattle.vcm_num.specs.declared.point.Point.{Point}
 use Rattle.vcm_num.specs.Texts.{thousandths}
 use Rattle.vcm_marks.specs.declared.mark.Contact.{Contact}
@@ -36,3 +36,11 @@ contact_line names (Some c) = contact_words c (written (name_of names c.block)) 
 abbrev pub left_out_line : ℕ → List Saying
 left_out_line n =
     if nat_eq n 0 then [] else say (codes "the first " ∷ decimal n ∷ codes " pieces of the way are left out" ∷ []) ∷ []
+
+-- a line of what wasn't tried
+abbrev pub note_line : List ℕ → List Saying
+note_line line = say (written line ∷ []) ∷ []
+
+-- lines of what wasn't tried, the first 40 of them
+abbrev pub untried_lines : List (List ℕ) → List Saying
+untried_lines lines = flat_map note_line (take 40 lines)

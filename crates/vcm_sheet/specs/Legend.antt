@@ -18,6 +18,7 @@ with_class u class.Approach = record (u) { approach = true }
 with_class u class.Search = record (u) { search = true }
 with_class u class.Retract = record (u) { retract = true }
 with_class u class.Rest = record (u) { rest = true }
+with_class u class.Elsewhere = record (u) { elsewhere = true }
 with_class u class.Touched = record (u) { touched = true }
 with_class u class.Cross = record (u) { contact = true }
 with_class u class.Limits = record (u) { limits = true }

@@ -1,5 +1,5 @@
 -- Worked examples.
-use Rattle.std.specs.Prelude.{◌≡◌, refl, ℕ, ℤ, pos, negsuc, [], ◌∷◌, codes}
+use Rattle.std.specs.Prelude.{◌≡◌, refl, ℕ, ℤ, pos, negsuc, false, [], ◌∷◌, codes}
 use Rattle.std.specs.Fmt.{digits}
 use Rattle.vcm_num.specs.Point.{point}
 use Rattle.vcm_marks.specs.declared.mark.Mark.TheVariants.{Touches}
@@ -14,7 +14,7 @@ use Rattle.vcm_sheet.specs.Ticks.{ticks_of, tick_words}
 
 -- a point that was touched in this step, by a statement on this line, at a place so far to the right
 abbrev touch : ℕ → ℕ → ℤ → PlacedMark
-touch step line x = record { mark = Touches (record { at = point x (pos 20000) (pos 500); feature = 1 }); step = step; number = step; line = line }
+touch step line x = record { mark = Touches (record { at = point x (pos 20000) (pos 500); feature = 1 }); step = step; number = step; line = line; is_elsewhere = false }
 
 -- of two touched points on the lines 7 and 11, one comes from the lines 10 to 12: the second
 pub second_point : points_on (record { first = 10; last = 12 }) (touch 4 7 (pos 20000) ∷ touch 8 11 (pos 80000) ∷ [])

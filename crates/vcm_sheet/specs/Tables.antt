@@ -18,7 +18,7 @@ sign_row is_drawn words = if is_drawn then say (words ∷ []) ∷ [] else []
 abbrev pub way_signs : Used → List Saying
 way_signs u =
     sign_row u.moves (codes "move") ++ (sign_row u.approach (codes "approach") ++ (sign_row u.search (codes "search") ++ (sign_row u.retract (codes "retract")
-    ++ sign_row u.rest (codes "not reached"))))
+    ++ (sign_row u.rest (codes "not reached") ++ sign_row u.elsewhere (codes "begins elsewhere")))))
 
 -- the rows of the other marks
 abbrev pub mark_signs : Used → List Saying

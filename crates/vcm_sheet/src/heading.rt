@@ -1,9 +1,9 @@
 //! The heading of a sheet.
 
-ghost use Rattle.std.specs.Prelude.{[], ◌∷◌, map, IfOk};
+ghost use Rattle.std.specs.Prelude.{[], ◌∷◌, flat_map, map, IfOk};
 ghost use Rattle.vcm_svg.specs.Pieces.{texts};
 ghost use Rattle.vcm_sheet.specs.Content.{filing, heading};
-ghost use Rattle.vcm_sheet.specs.Heading.{files_line, position_line, lines_line, contact_words, contact_line, left_out_line};
+ghost use Rattle.vcm_sheet.specs.Heading.{files_line, position_line, lines_line, contact_words, contact_line, left_out_line, note_line, untried_lines};
 ghost use Rattle.vcm_sheet.specs.Sayings.{Adds, Words};
 
 use crate::lines::Lines;
@@ -13,20 +13,20 @@ use crate::subject::Sheet;
 use std::alloc::Global;
 use vcm_marks::Contact;
 use vcm_num::{NoMemory, Point};
-use vcm_svg::{Fragment, Lettering, Placement, Spot, Unit, put_text};
+use vcm_svg::{Fragment, Lettering, Placement, Spot, Unit, few_notes, put_text};
 
 /// How many units a line of the heading is high.
 const PITCH: i64 = 18;
 
-// Where a line of the heading is, so many units from the top.
-fn line_label(unit: Unit, down: i64) -> Placement {
+// Where a line of the heading is in this lettering, so many units from the top.
+fn line_label(unit: Unit, down: i64, class: Lettering) -> Placement {
     Placement {
         at: Spot {
             x: units(20, unit),
             y: units(down, unit),
         },
         size: unit.get(),
-        class: Lettering::Heading,
+        class,
     }
 }
 
@@ -34,7 +34,7 @@ fn line_label(unit: Unit, down: i64) -> Placement {
 fn put_line(out: &mut Vec<u8>, unit: Unit, down: i64, words: &[Fragment]) -> Result<i64, NoMemory>
     ensures { IfOk result (λ next. Adds (Words (texts words.now) ∷ []) out.old.items out.new.items) }
 {
-    put_text(out, line_label(unit, down), words)?;
+    put_text(out, line_label(unit, down, Lettering::Heading), words)?;
     Ok(down.saturating_add(PITCH))
 }
 
@@ -173,6 +173,52 @@ fn put_left_out(out: &mut Vec<u8>, unit: Unit, down: i64, left_out: u64) -> Resu
     )
 }
 
+// Appends a line of what wasn't tried, so many units from the top, and gives where the next one stands.
+fn put_note(
+    alloc: Global,
+    out: &mut Vec<u8>,
+    unit: Unit,
+    down: i64,
+    line: &[u8],
+) -> Result<i64, NoMemory>
+    ensures { IfOk result (λ next. Adds (note_line line.now) out.old.items out.new.items) }
+{
+    let words = written(alloc, line)?;
+    let label = line_label(unit, down, Lettering::Note);
+    put_text(out, label, &[Fragment::Text(words.as_slice())])?;
+    Ok(down.saturating_add(PITCH))
+}
+
+// Appends lines of what wasn't tried.
+fn put_notes(
+    alloc: Global,
+    out: &mut Vec<u8>,
+    unit: Unit,
+    first: i64,
+    lines: &[Vec<u8>],
+) -> Result<i64, NoMemory>
+    ensures { IfOk result (λ next. Adds (flat_map (λ line. note_line line.items) lines.now) out.old.items out.new.items) }
+{
+    let mut down = first;
+    for line in lines {
+        down = put_note(alloc, out, unit, down, line.as_slice())?;
+    }
+    Ok(down)
+}
+
+// Appends those lines of what wasn't tried that are shown.
+fn put_untried(
+    alloc: Global,
+    out: &mut Vec<u8>,
+    unit: Unit,
+    down: i64,
+    lines: &[Vec<u8>],
+) -> Result<i64, NoMemory>
+    ensures { IfOk result (λ next. Adds (untried_lines (map (λ line. line.items) lines.now)) out.old.items out.new.items) }
+{
+    put_notes(alloc, out, unit, down, few_notes(lines))
+}
+
 /// Appends the heading with this first line, and gives how many units below the upper edge the next line would stand.
 pub(crate) fn put_heading(
     alloc: Global,
@@ -190,5 +236,6 @@ pub(crate) fn put_heading(
     let down = put_position(out, unit, down, position, sheet.done)?;
     let down = put_lines(out, unit, down, sheet.lines)?;
     let down = put_contact(alloc, out, unit, down, sheet.block_names, contact)?;
-    put_left_out(out, unit, down, sheet.left_out)
+    let down = put_left_out(out, unit, down, sheet.left_out)?;
+    put_untried(alloc, out, unit, down, sheet.untried)
 }

@@ -16,6 +16,7 @@ pub struct Used {
     pub search: bool,
     pub retract: bool,
     pub rest: bool,
+    pub elsewhere: bool,
     pub touched: bool,
     pub end: bool,
     pub home: bool,
@@ -50,6 +51,10 @@ fn with_class(used: Used, class: Class) -> Used
             ..used
         },
         Class::Rest => Used { rest: true, ..used },
+        Class::Elsewhere => Used {
+            elsewhere: true,
+            ..used
+        },
         Class::Touched => Used {
             touched: true,
             ..used
@@ -132,6 +137,7 @@ pub(crate) const NONE: Used = Used {
     search: false,
     retract: false,
     rest: false,
+    elsewhere: false,
     touched: false,
     end: false,
     home: false,

@@ -95,7 +95,16 @@ fn put_ways(out: &mut Vec<u8>, at: Spot, unit: Unit, used: Used) -> Result<Spot,
         line,
         b"retract",
     )?;
-    put_sign(out, at, unit, used.rest, Class::Rest, line, b"not reached")
+    let at = put_sign(out, at, unit, used.rest, Class::Rest, line, b"not reached")?;
+    put_sign(
+        out,
+        at,
+        unit,
+        used.elsewhere,
+        Class::Elsewhere,
+        line,
+        b"begins elsewhere",
+    )
 }
 
 // Appends the rows of the other marks that are drawn.

@@ -31,7 +31,7 @@ use vcm_picture::{
 };
 use vcm_svg::{
     BoundedSpot, Class, Fragment, Lettering, Outline, Placement, Spot, Unit, put, put_bar,
-    put_path, put_style, put_text, quotient,
+    put_notes_style, put_path, put_style, put_text, quotient,
 };
 
 /// The views, in the order in which they are drawn.
@@ -352,6 +352,17 @@ fn put_sheet_style(out: &mut Vec<u8>, unit: Unit) -> Result<(), NoMemory>
     )
 }
 
+// Appends the style of what wasn't tried, if something wasn't.
+fn put_style_of_notes(out: &mut Vec<u8>, unit: Unit, has_notes: bool) -> Result<(), NoMemory>
+    ensures { OnOk result (Adds [] out.old.items out.new.items) }
+{
+    if has_notes {
+        put_notes_style(out, unit)
+    } else {
+        Ok(())
+    }
+}
+
 // The background of a sheet.
 fn ground_of(places: &Places) -> Outline {
     Outline::Rectangle(Spot { x: 0, y: 0 }, places.wide, places.high)
@@ -364,11 +375,13 @@ fn put_ground(
     places: &Places,
     blocks: usize,
     marks: &[PlacedMark],
+    has_notes: bool,
 ) -> Result<(), NoMemory>
     ensures { OnOk result (Adds [] out.old.items out.new.items) }
 {
     put_style(out, window.unit(), blocks, are_few(marks))?;
     put_sheet_style(out, window.unit())?;
+    put_style_of_notes(out, window.unit(), has_notes)?;
     put_clips(out, &VIEWS, window)?;
     put_path(out, Class::Sheet, ground_of(places))
 }
@@ -406,7 +419,15 @@ fn put_whole(
     let places = places_of(window, place, below);
     let mut out = Vec::new(alloc);
     put_head(&mut out, unit, &places, sheet, first)?;
-    put_ground(&mut out, window, &places, sheet.part.blocks().len(), marks)?;
+    let has_notes = !sheet.untried.is_empty();
+    put_ground(
+        &mut out,
+        window,
+        &places,
+        sheet.part.blocks().len(),
+        marks,
+        has_notes,
+    )?;
     out.append(&mut heading)?;
     let features = sheet.world.tables().features();
     put_drawings(

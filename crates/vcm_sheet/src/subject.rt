@@ -6,7 +6,8 @@ use vcm_part::PartData;
 use vcm_state::World;
 
 /// What a sheet shows: a workpiece, with the names of its blocks; the state at the end of a run of so many steps; the marks of its way, before which so
-/// many pieces are left out; and of these what comes from some source lines. It names the files of the program and of the part.
+/// many pieces are left out; and of these what comes from some source lines. It names the files of the program and of the part, and
+/// has lines of what wasn't tried in its heading.
 #[derive(Clone, Copy)]
 pub struct Sheet<'a> {
     pub part: &'a PartData,
@@ -19,4 +20,5 @@ pub struct Sheet<'a> {
     pub program_name: &'a [u8],
     pub part_name: &'a [u8],
     pub block_names: &'a [Vec<u8>],
+    pub untried: &'a [Vec<u8>],
 }

@@ -1,3 +1,4 @@
 pub mod Appended
+pub mod Noting
 pub mod Putting
 pub mod Signed

@@ -5,4 +5,5 @@ pub mod Shapes
 pub mod Style
 pub mod Heading
 pub mod Legend
+pub mod Notes
 pub mod Ranges

@@ -6,7 +6,7 @@ use Rattle.vcm_svg.specs.declared.shapes.Class.{Class}
 use Rattle.vcm_svg.specs.declared.shapes.Class.TheVariants as class
 use Rattle.vcm_svg.specs.declared.shapes.Placement.{Placement}
 use Rattle.vcm_svg.specs.declared.shapes.Lettering.{Lettering}
-use Rattle.vcm_svg.specs.declared.shapes.Lettering.TheVariants.{Plain, Heading, Number, Name}
+use Rattle.vcm_svg.specs.declared.shapes.Lettering.TheVariants.{Plain, Heading, Number, Name, Note}
 use Rattle.vcm_svg.specs.declared.outlines.Outline.{Outline}
 use Rattle.vcm_svg.specs.Outlines.{outline_text}
 use Rattle.vcm_svg.specs.Pieces.{joined}
@@ -17,6 +17,7 @@ attribute Plain = []
 attribute Heading = codes " class=\"h\""
 attribute Number = codes " class=\"n\""
 attribute Name = codes " class=\"p\""
+attribute Note = codes " class=\"h u\""
 
 -- the name of a path's class
 abbrev pub class_name : Class → List ℕ
@@ -32,6 +33,7 @@ class_name class.Approach = codes "approach"
 class_name class.Search = codes "search"
 class_name class.Retract = codes "retract"
 class_name class.Rest = codes "rest"
+class_name class.Elsewhere = codes "elsewhere"
 class_name class.Touched = codes "d"
 class_name class.Place = codes "o"
 class_name class.Tip = codes "q"

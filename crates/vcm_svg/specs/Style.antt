@@ -1,7 +1,7 @@
 -- The style of a picture. Widths and lengths are multiples of its unit.
 use Rattle.std.specs.Prelude.{ℕ, ℤ, pos, ◌*ℤ◌, Bool, nat_le, if◌then◌else◌, map, List, ◌++◌, flat_map}
 use Rattle.std.specs.Fmt.{signed_decimal}
-use Rattle.vcm_svg.specs.declared.style.TheConstants.{GENERAL, BLOCKS, MOVES, WAYS, ARROW, END}
+use Rattle.vcm_svg.specs.declared.style.TheConstants.{GENERAL, BLOCKS, MOVES, WAYS, NOTES, ARROW, END}
 use Rattle.std.specs.Int.{int_max, int_div_euclid}
 
 -- a text, and behind it so many times a unit
@@ -40,3 +40,11 @@ end_text is_few = if is_few then ARROW.now else END.now
 abbrev pub style_text : ℤ → ℕ → Bool → List ℕ
 style_text u count is_few =
     widths u general ++ (widths (edge_of u count) blocks ++ (width_text u (MOVES.now, broad_if is_few) ++ (widths u ways ++ end_text is_few)))
+
+-- the style of lines of what wasn't tried, and of ways that begin elsewhere
+abbrev pub notes : List (List ℕ × ℕ)
+notes = map (λ row. (row.0.now, row.1)) NOTES.now
+
+-- the same, with its end
+abbrev pub notes_style : ℤ → List ℕ
+notes_style u = widths u notes ++ END.now

@@ -16,6 +16,7 @@ pub enum Lettering {
     Heading,
     Number,
     Name,
+    Note,
 }
 
 /// The class of a path.
@@ -33,6 +34,7 @@ pub enum Class {
     Search,
     Retract,
     Rest,
+    Elsewhere,
     Touched,
     Place,
     Tip,
@@ -56,6 +58,7 @@ fn attribute<'a>(class: Lettering) -> &'a [u8]
         Lettering::Heading => b" class=\"h\"",
         Lettering::Number => b" class=\"n\"",
         Lettering::Name => b" class=\"p\"",
+        Lettering::Note => b" class=\"h u\"",
     }
 }
 
@@ -76,6 +79,7 @@ fn class_name<'a>(class: Class) -> &'a [u8]
         Class::Search => b"search",
         Class::Retract => b"retract",
         Class::Rest => b"rest",
+        Class::Elsewhere => b"elsewhere",
         Class::Touched => b"d",
         Class::Place => b"o",
         Class::Tip => b"q",

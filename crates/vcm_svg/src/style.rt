@@ -1,7 +1,7 @@
 //! The style of a picture.
 
 ghost use Rattle.std.specs.Prelude.{◌≡◌, ◌++◌, map, OnOk};
-ghost use Rattle.vcm_svg.specs.Style.{width_text, widths, edge_of, broad_if, end_text, style_text};
+ghost use Rattle.vcm_svg.specs.Style.{width_text, widths, edge_of, broad_if, end_text, notes_style, style_text};
 
 use crate::pieces::{Fragment, put, put_bytes};
 use crate::ranges::Unit;
@@ -56,6 +56,16 @@ const WAYS: &[(&[u8], u8)] = &[
     (b"}\n.o{fill:none;stroke:#000;stroke-width:", 2),
     (b"}\n.q{fill:none;stroke:#000;stroke-width:", 1),
     (b"}\n.x{fill:none;stroke:#000;stroke-width:", 3),
+];
+
+/// The style of lines of what wasn't tried, and of ways that begin elsewhere.
+const NOTES: &[(&[u8], u8)] = &[
+    (
+        b"<style>\n.u{fill:#8a5a00}\n.elsewhere{fill:none;stroke-linecap:round;stroke:#8a5a00;stroke-width:",
+        2,
+    ),
+    (b";stroke-dasharray:", 11),
+    (b" ", 6),
 ];
 
 /// The end of the style where moves have no arrows.
@@ -126,4 +136,12 @@ pub fn put_style(out: &mut Vec<u8>, unit: Unit, blocks: usize, is_few: bool) -> 
     put_width(out, unit, MOVES, broad_if(is_few))?;
     put_widths(out, unit, WAYS)?;
     put_end(out, is_few)
+}
+
+/// Appends the style of lines of what wasn't tried, and of ways that begin elsewhere.
+pub fn put_notes_style(out: &mut Vec<u8>, unit: Unit) -> Result<(), NoMemory>
+    ensures { OnOk result (out.new.items ≡ out.old.items ++ notes_style unit) }
+{
+    put_widths(out, unit, NOTES)?;
+    put_bytes(out, END)
 }

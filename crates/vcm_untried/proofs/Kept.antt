@@ -72,7 +72,7 @@ reading_times ps k m h = by (nat_lt m k) refl
 
 -- ---- all that is counted
 
-within_front : (k : ℕ) (ps : List Passage) (p : Passage) → AreWithin k (ps ++ p ∷ []) → AreWithin k ps × (p.number < k)
+pub within_front : (k : ℕ) (ps : List Passage) (p : Passage) → AreWithin k (ps ++ p ∷ []) → AreWithin k ps × (p.number < k)
 within_front k [] p h = (tt, h.0)
 within_front k (q ∷ ps) p h = let r = within_front k ps p h.1 in ((h.0, r.0), r.1)
 

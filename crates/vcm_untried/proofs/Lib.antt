@@ -6,6 +6,8 @@ pub mod Tables
 pub mod Short
 pub mod Kept
 pub mod Stood
+pub mod Markings
+pub mod Touching
 pub mod Joined
 pub mod Ended
 pub mod Same

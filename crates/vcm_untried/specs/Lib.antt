@@ -8,6 +8,9 @@ pub mod Groups
 pub mod Spans
 pub mod Frames
 pub mod Elsewhere
+pub mod Known
+pub mod Marking
+pub mod Points
 pub mod Lines
 pub mod Laws
 pub mod Samples

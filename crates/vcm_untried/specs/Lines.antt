@@ -153,3 +153,17 @@ current_text (Some f) line = codes "frame " ++ (f.name ++ (codes " since line " 
 -- what is told of the way on which a run stops, if it stops on one
 abbrev pub way_text : List NamedFrame → Standing → List ℕ
 way_text frames s = if s.is_way then begun_text s.way ++ current_text (frame_at frames s.frame) s.frame else []
+
+-- ---- what is reported at a step
+
+-- what it is
+abbrev pub mark_text : About → List ℕ
+mark_text (NotTried cause since) = codes "not tried"
+mark_text Approached = codes "approached, not touched"
+mark_text BeginsElsewhere = codes "begins elsewhere"
+mark_text NotReported = codes "not reported"
+mark_text AnotherTip = codes "another tip"
+
+-- the same, and why
+abbrev pub about_words : List NamedFrame → About → List ℕ
+about_words frames about = mark_text about ++ about_text frames about

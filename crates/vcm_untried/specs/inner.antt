@@ -1,3 +1,4 @@
 -- What only private contracts and proofs of this crate speak of.
 pub mod Short
 pub mod Following
+pub mod Marking

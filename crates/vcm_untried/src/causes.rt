@@ -16,12 +16,12 @@ const ALL: usize = 6;
 /// it is.
 pub type Losses = [u32; CAUSES];
 
-// The places of the variables that carry what is known of the machine.
-const FRAME: usize = 0;
+/// The places of the variables that carry what is known of the machine.
+pub(crate) const FRAME: usize = 0;
 
-const MODE: usize = 2;
+pub(crate) const MODE: usize = 2;
 
-const TABLE: usize = 3;
+pub(crate) const TABLE: usize = 3;
 
 const SCANNING: usize = 4;
 
@@ -63,8 +63,8 @@ fn epoch_in(variables: &[i64]) -> i64
     }
 }
 
-// Whether what a variable carries isn't known.
-fn is_lost(variables: &[i64], variable: usize) -> bool
+/// Whether what a variable carries isn't known.
+pub(crate) fn is_lost(variables: &[i64], variable: usize) -> bool
     ensures { result ≡ is_lost variables.now variable }
 {
     match variables.get(variable) {

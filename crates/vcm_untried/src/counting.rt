@@ -45,8 +45,8 @@ struct Progress {
     told: Told,
 }
 
-// The remark on a statement, if there is one.
-fn remark_at(table: &[Option<NumberedRemark>], at: usize) -> Option<NumberedRemark>
+/// The remark on a statement, if there is one.
+pub(crate) fn remark_at(table: &[Option<NumberedRemark>], at: usize) -> Option<NumberedRemark>
     ensures { result ≡ at_index table.now at }
 {
     match table.get(at) {
@@ -110,8 +110,8 @@ fn empty_table(alloc: Global, statements: usize) -> Result<Vec<Option<NumberedRe
     Ok(table)
 }
 
-// The remark on each of so many statements.
-fn table_of(
+/// The remark on each of so many statements.
+pub(crate) fn table_of(
     alloc: Global,
     remarks: &[NumberedRemark],
     statements: usize,

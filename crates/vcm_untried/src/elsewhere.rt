@@ -5,7 +5,7 @@ ghost use Rattle.vcm_code.specs.declared.op.Op.TheVariants.{Plain};
 ghost use Rattle.vcm_untried.specs.Counted.{IsNotCounted};
 ghost use Rattle.vcm_untried.specs.Elsewhere.{is_way, is_placed, frame_in, seen_in, lost_behind, begun_behind, way_behind, frame_behind, stands_behind, standing_behind, standing_of};
 
-use crate::causes::is_nought;
+use crate::causes::{FRAME, is_nought};
 use std::alloc::Global;
 use vcm_code::Op;
 use vcm_fields::{BorrowedOp, BorrowedStatement, ItemSlice, TextSlice};
@@ -39,10 +39,8 @@ pub struct Seen {
     pub frame: i64,
 }
 
-// The places of the variables that carry the frame and the place of the probe.
-const FRAME: usize = 0;
-
-const PLACE: usize = 6;
+/// The place of the variable that carries the place of the probe.
+pub(crate) const PLACE: usize = 6;
 
 // Whether a simple statement sends the probe on a way.
 fn moves(what: &Simple<ItemSlice<'_>, TextSlice<'_>>) -> bool
@@ -54,8 +52,8 @@ fn moves(what: &Simple<ItemSlice<'_>, TextSlice<'_>>) -> bool
     )
 }
 
-// Whether a statement does.
-fn is_way(op: &BorrowedOp<'_>) -> bool
+/// Whether a statement does.
+pub(crate) fn is_way(op: &BorrowedOp<'_>) -> bool
     ensures { result ≡ is_way op.now }
 {
     match op {

@@ -3,7 +3,7 @@
 ghost use Rattle.std.specs.Prelude.{◌≡◌, ◌++◌, decimal, IfOk, OnOk};
 ghost use Rattle.std.specs.Option.{option_copied};
 ghost use Rattle.vcm_untried.specs.Telling.{shown};
-ghost use Rattle.vcm_untried.specs.Lines.{head_text, count_text, lines_word, rest_text, span_text, spans_text, option_text, give_text, named_text, frame_text, lost_text, cause_text, given_text, since_text, about_text, group_text, groups_text, end_text, untried_text, all_tried, begun_text, current_text, way_text};
+ghost use Rattle.vcm_untried.specs.Lines.{head_text, count_text, lines_word, rest_text, span_text, spans_text, option_text, give_text, named_text, frame_text, lost_text, cause_text, given_text, since_text, about_text, group_text, groups_text, end_text, untried_text, all_tried, begun_text, current_text, way_text, mark_text, about_words};
 
 use crate::about::About;
 use crate::counting::Counts;
@@ -17,8 +17,8 @@ use std::alloc::Global;
 use vcm_num::NoMemory;
 use vcm_remarks::Cause;
 
-// Appends some bytes.
-fn put(out: &mut Vec<u8>, bytes: &[u8]) -> Result<(), NoMemory>
+/// Appends some bytes.
+pub(crate) fn put(out: &mut Vec<u8>, bytes: &[u8]) -> Result<(), NoMemory>
     ensures { OnOk result (out.new.items ≡ out.old.items ++ bytes.now) }
 {
     out.extend_from_slice(bytes)?;
@@ -33,8 +33,8 @@ fn put_number(out: &mut Vec<u8>, number: u64) -> Result<(), NoMemory>
     put(out, buffer.format(number).as_bytes())
 }
 
-// Appends bytes and a number after them.
-fn put_before(out: &mut Vec<u8>, bytes: &[u8], number: u64) -> Result<(), NoMemory>
+/// Appends bytes and a number after them.
+pub(crate) fn put_before(out: &mut Vec<u8>, bytes: &[u8], number: u64) -> Result<(), NoMemory>
     ensures { OnOk result (out.new.items ≡ out.old.items ++ (bytes.now ++ decimal number)) }
 {
     put(out, bytes)?;
@@ -344,5 +344,30 @@ pub fn way_text(
         put_begun(&mut out, standing.way)?;
         put_current(&mut out, frame_at(frames, standing.frame), standing.frame)?;
     }
+    Ok(out)
+}
+
+// What is reported at a step.
+fn mark_text(about: About) -> &'static [u8]
+    ensures { result.now ≡ mark_text about }
+{
+    match about {
+        About::NotTried(_, _) => b"not tried",
+        About::Approached => b"approached, not touched",
+        About::BeginsElsewhere => b"begins elsewhere",
+        About::NotReported => b"not reported",
+        About::AnotherTip => b"another tip",
+    }
+}
+
+/// What is reported of a line at a step, and why, where statements of the text make or recall these frames.
+///
+/// Errors: want of memory.
+pub fn about_words(alloc: Global, about: About, frames: &[NamedFrame]) -> Result<Vec<u8>, NoMemory>
+    ensures { IfOk result (λ text. text.items ≡ about_words frames.now about) }
+{
+    let mut out = Vec::new(alloc);
+    put(&mut out, mark_text(about))?;
+    put_about(&mut out, frames, about)?;
     Ok(out)
 }

@@ -6,7 +6,7 @@ pub(crate) fn head_1() -> &'static [u8] {
 <html lang=\"en\">
 <head>
 <meta charset=\"utf-8\">
-<meta http-equiv=\"Content-Security-Policy\" content=\"default-src 'none'; script-src 'sha256-lozTjraVM3lbhkbKTeVcuiO4LFZSQqqbmbcsrE5FYq0='; style-src 'sha256-g95snF2E+HSE0d6MerNicJqoIPLN6pxSxc7wMN+VCVY='; base-uri 'none'; form-action 'none'\">
+<meta http-equiv=\"Content-Security-Policy\" content=\"default-src 'none'; script-src 'sha256-aJMLnZ27T1vAY5zh0+xs0r0vbKkh6H+GRfoWb7HC9Jk='; style-src 'sha256-ODq5bTrVENWM8tAZpsFXfRqhjKWeA35OsPvqzBWYWCQ='; base-uri 'none'; form-action 'none'\">
 <meta name=\"viewport\" content=\"width=device-width, initial-scale=1\">
 <meta name=\"color-scheme\" content=\"light dark\">
 <title>vcm view</title>
@@ -26,6 +26,7 @@ pub(crate) fn middle_1() -> &'static [u8] {
 </header>
 <noscript><p class=\"note\">This page needs JavaScript to show the run. It loads nothing from a network.</p></noscript>
 <p id=\"fault\" class=\"note\" role=\"alert\" hidden></p>
+<ul id=\"not-tried\" class=\"note\" aria-label=\"What wasn't tried\" hidden></ul>
 <main>
   <section id=\"views\" aria-label=\"Workpiece and way of the probe\" data-view=\"all\">
     <div class=\"bar\">
@@ -45,13 +46,13 @@ pub(crate) fn middle_1() -> &'static [u8] {
     </div>
     <div class=\"sheets\">
       <figure data-sheet=\"top\"><figcaption>Top <small>X right, Y up</small></figcaption><canvas role=\"img\"></canvas></figure>
-      <figure data-sheet=\"solid\"><figcaption>3D <small>drag to turn</small></figcaption><canvas class=\"gl\" aria-hidden=\"true\"></canvas><canvas class=\"over\" role=\"img\"></canvas>
 "
 }
 
 /// Part 2 of what stands between the style and the story.
 pub(crate) fn middle_2() -> &'static [u8] {
-    b"        <div class=\"turns\"><button type=\"button\" data-turn=\"left\" aria-label=\"Turn left\">&#8592;</button><button type=\"button\" data-turn=\"right\" aria-label=\"Turn right\">&#8594;</button><button type=\"button\" data-turn=\"up\" aria-label=\"Look from higher\">&#8593;</button><button type=\"button\" data-turn=\"down\" aria-label=\"Look from lower\">&#8595;</button></div></figure>
+    b"      <figure data-sheet=\"solid\"><figcaption>3D <small>drag to turn</small></figcaption><canvas class=\"gl\" aria-hidden=\"true\"></canvas><canvas class=\"over\" role=\"img\"></canvas>
+        <div class=\"turns\"><button type=\"button\" data-turn=\"left\" aria-label=\"Turn left\">&#8592;</button><button type=\"button\" data-turn=\"right\" aria-label=\"Turn right\">&#8594;</button><button type=\"button\" data-turn=\"up\" aria-label=\"Look from higher\">&#8593;</button><button type=\"button\" data-turn=\"down\" aria-label=\"Look from lower\">&#8595;</button></div></figure>
       <figure data-sheet=\"front\"><figcaption>Front <small>X right, Z up</small></figcaption><canvas role=\"img\"></canvas></figure>
       <figure data-sheet=\"side\"><figcaption>Right side <small>Y right, Z up</small></figcaption><canvas role=\"img\"></canvas></figure>
     </div>

@@ -7,7 +7,7 @@ use crate::script::{
     script_18, script_19, script_20, script_21, script_22, script_23, script_24, script_25,
     script_26, script_27, script_28, script_29, script_30, script_31, script_32, script_33,
     script_34, script_35, script_36, script_37, script_38, script_39, script_40, script_41,
-    script_42, script_43, script_44, script_45,
+    script_42, script_43, script_44, script_45, script_46, script_47,
 };
 use crate::style::{
     style_1, style_2, style_3, style_4, style_5, style_6, style_7, style_8, style_9, style_10,
@@ -35,7 +35,7 @@ pub fn front() -> [&'static [u8]; 15] {
 }
 
 /// What stands behind the story and the end of its element, in order.
-pub fn back() -> [&'static [u8]; 47] {
+pub fn back() -> [&'static [u8]; 49] {
     [
         between_1(),
         script_1(),
@@ -83,6 +83,8 @@ pub fn back() -> [&'static [u8]; 47] {
         script_43(),
         script_44(),
         script_45(),
+        script_46(),
+        script_47(),
         end_1(),
     ]
 }
@@ -104,7 +106,7 @@ pub fn style_parts() -> [&'static [u8]; 10] {
 }
 
 /// The script, in order.
-pub fn script_parts() -> [&'static [u8]; 45] {
+pub fn script_parts() -> [&'static [u8]; 47] {
     [
         script_1(),
         script_2(),
@@ -151,5 +153,7 @@ pub fn script_parts() -> [&'static [u8]; 45] {
         script_43(),
         script_44(),
         script_45(),
+        script_46(),
+        script_47(),
     ]
 }

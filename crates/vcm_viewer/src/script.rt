@@ -92,20 +92,31 @@ function frameOf(name, words) {
   return { name, origin: words.slice(0, 3).map(Number), axes: words.slice(3, 6) };
 }
 
+// Whether a variable or a frame is one that no text names: it carries what is known of a whole program.
+const isCarried = (name) => Number(name.split(\"#\")[1] || 0) > 2147483647 || /^(0|_{16}$)/.test(name);
+
 // Whether part coordinates are the machine's.
 const isMachine = (frame) => frame.origin.every((x) => x === 0) && frame.axes.join() === \"+X,+Y,+Z\";
+
+// What is told of a step that sets a variable which no text names.
+const CARRIED = \"carries what is known\";
 
 // The run of a data block.
 function readRun(text) {
   const run = {
     low: null, high: null, home: null, tip: 0, blocks: [], names: new Map(), lines: [], code: [], notices: [], from: 0, listed: null, aims: new Map(),
     variables: new Map(), settings: new Map(), nominal: new Map(), actual: new Map(), frame: new Changes(null),
-    output: new Changes(null), touches: [], contact: null, stop: null, open: null, counts: new Map(), boxes: [],
+    output: new Changes(null), touches: [], contact: null, stop: null, open: null, counts: new Map(), boxes: [], untried: null,
   };
   const statement = new Numbers(Uint32Array), line = new Numbers(Uint32Array), position = new Numbers(Float64Array);
   const done = [\"\"], pieceFrom = new Numbers(Uint32Array);
   const ends = new Numbers(Float64Array), kinds = [], pieceStep = new Numbers(Uint32Array);
-  let step = 0, last = null, before = null, word = \"\";
+"
+}
+
+/// Part 3 of the script.
+pub(crate) fn script_3() -> &'static [u8] {
+    b"  let step = 0, last = null, before = null, word = \"\";
   const piece = (kind, to) => {
     for (const x of last) ends.push(x);
     for (const x of to) ends.push(x);
@@ -114,12 +125,7 @@ function readRun(text) {
     last = to;
   };
   const rows = text.split(\"\\n\");
-"
-}
-
-/// Part 3 of the script.
-pub(crate) fn script_3() -> &'static [u8] {
-    b"  if (rows[0] !== \"\" || rows[1] !== \"vcm-view 1\") throw new Error(\"the data is not of this version\");
+  if (rows[0] !== \"\" || rows[1] !== \"vcm-view 1\") throw new Error(\"the data is not of this version\");
   for (let i = 2; i < rows.length; i++) {
     const row = rows[i];
     const key = row.charCodeAt(0);
@@ -145,7 +151,7 @@ pub(crate) fn script_3() -> &'static [u8] {
       else if (said.includes(\"=\")) {
         const [name, value] = said.split(\" \")[0].split(\"=\");
         const map = word === \"SNSET\" ? run.settings : run.variables;
-        map.get(name).changes.add(step, value);
+        if (map.has(name)) map.get(name).changes.add(step, value); else done[step] = CARRIED;
       }
       continue;
     }
@@ -157,18 +163,18 @@ pub(crate) fn script_3() -> &'static [u8] {
       case \"H\": run.home = words.map(Number); break;
       case \"T\": run.tip = Number(rest); break;
       case \"B\": run.blocks.push(words.map(Number)); break;
-      case \"L\": run.lines.push(shownText(rest)); break;
+      case \"L\": run.lines.push(shownText(rest).replace(/\\u240d$/, \"\")); break;
       case \"I\": run.listed = Number(rest); break;
-      case \"C\": run.code.push({ line: Number(words[0]), word: words[1] }); break;
-      case \"V\": run.variables.set(words[0], { kind: words[1], changes: new Changes(words[2]) }); break;
-      case \"S\": run.settings.set(words[0], { changes: new Changes(words[1]) }); break;
-      case \"N\": run.notices.push({ line: Number(words[0]), word: words[1] }); break;
 "
 }
 
 /// Part 4 of the script.
 pub(crate) fn script_4() -> &'static [u8] {
-    b"      case \"D\": run.frame.first = frameOf(null, words); break;
+    b"      case \"C\": run.code.push({ line: Number(words[0]), word: words[1] }); break;
+      case \"V\": if (!isCarried(words[0])) run.variables.set(words[0], { kind: words[1], changes: new Changes(words[2]) }); break;
+      case \"S\": run.settings.set(words[0], { changes: new Changes(words[1]) }); break;
+      case \"N\": run.notices.push({ line: Number(words[0]), word: words[1] }); break;
+      case \"D\": run.frame.first = frameOf(null, words); break;
       case \"F\": case \"f\": {
         const found = /^(FA?)\\((\\w+)\\)=FEAT\\/POINT,CART,(.*)$/.exec(rest);
         const map = found[1] === \"F\" ? run.nominal : run.actual;
@@ -184,7 +190,7 @@ pub(crate) fn script_4() -> &'static [u8] {
         break;
       case \"t\": run.touches.push({ step, at: words.slice(0, 3).map(Number), name: words[3] }); break;
       case \"c\": run.contact = { step, at: words.slice(0, 3).map(Number), block: Number(words[3]) }; break;
-      case \"d\": run.frame.add(step, frameOf(words[0], words.slice(1))); break;
+      case \"d\": run.frame.add(step, frameOf(isCarried(words[0]) ? null : words[0], words.slice(1))); break;
       case \"o\": run.output.add(step, shownText(rest)); break;
       default: throw new Error(\"row \" + (i + 1) + \" of the data has an unknown key\");
     }
@@ -199,23 +205,69 @@ pub(crate) fn script_4() -> &'static [u8] {
   run.kinds = kinds;
   run.ends = ends.done();
   run.pieceStep = pieceStep.done();
-  run.touchSteps = new Changes(null);
-  for (const touch of run.touches) run.touchSteps.add(touch.step, touch);
-  for (let k = 1; k <= step; k++) {
-    const row = rowAt(run, k), list = run.counts.get(row);
-    if (list) list.push(k); else run.counts.set(row, [k]);
-  }
-  const title = run.lines.map((it) => /^\\s*DMISMN\\s*\\/\\s*'([^']*)'/i.exec(it)).find((it) => it);
-  run.title = title ? title[1] : \"Run of an image\";
-  return run;
-}
-
 "
 }
 
 /// Part 5 of the script.
 pub(crate) fn script_5() -> &'static [u8] {
-    b"// The boxes of a probe, from lines `Q NAME LOW HIGH`, each with its contacts in the run and with how much room is left round it, from the lines of its clearance.
+    b"  run.touchSteps = new Changes(null);
+  for (const touch of run.touches) run.touchSteps.add(touch.step, touch);
+  countSteps(run, () => true);
+  const title = run.lines.map((it) => /^\\s*DMISMN\\s*\\/\\s*'([^']*)'/i.exec(it)).find((it) => it);
+  run.title = title ? title[1] : \"Run of an image\";
+  return run;
+}
+
+// For each line the steps at which it is carried out.
+function countSteps(run, isOne) {
+  run.counts.clear();
+  for (let k = 1; k <= run.length; k++) {
+    const row = rowAt(run, k), list = run.counts.get(row);
+    if (!isOne(k)) continue;
+    if (list) list.push(k); else run.counts.set(row, [k]);
+  }
+}
+
+// What is known of the machine behind a step: the frame, the mode, the table and the place of the probe.
+const knownThings = [\"Frame\", \"Mode\", \"Table\", \"Place\"];
+
+// What of a whole program wasn't tried, from lines `W WORDS` of the head, `U LINE COUNT WORDS`, `M STEP NUMBER` with the number of such a line, `E STEP` of a way that
+// begins elsewhere, and `Y STEP FRAME MODE TABLE PLACE` where something else is known. A line of the text is put as several statements: it is carried out once
+// however many of them are. The end of what it is put as may stand behind other lines.
+function readUntried(run, text) {
+  const found = (run.untried = { told: [], lines: new Map(), steps: new Map(), known: new Changes([true, true, true, true]) }), rows = [];
+  for (const row of text.split(\"\\n\")) {
+    const words = row.split(\" \"), step = Number(words[1]) - run.from;
+    if (row[0] === \"W\") found.told.push(shownText(row.slice(2)));
+    else if (row[0] === \"U\") {
+      const line = Number(words[1]), it = { count: Number(words[2]), text: shownText(words.slice(3).join(\" \")) };
+      rows.push(it);
+      found.lines.set(line, [...(found.lines.get(line) || []), it]);
+    } else if (row[0] === \"M\") found.steps.set(step, rows[Number(words[2])].text);
+    else if (row[0] === \"E\" && step > 0) beginElsewhere(run, step);
+    else if (row[0] === \"Y\") {
+      const known = words.slice(2).map((it) => it === \"1\");
+"
+}
+
+/// Part 6 of the script.
+pub(crate) fn script_6() -> &'static [u8] {
+    b"      if (step > 0) found.known.add(step, known); else found.known.first = known;
+    }
+  }
+  const words = new Map();
+  for (let i = run.code.length - 1; i >= 0; i--) words.set(rowOf(run, i), run.code[i].word);
+  const isEnd = (k) => /^(ELSE|END(IF|DO|CAS|SEL))$/.test(run.code[run.statement[k]].word) && run.code[run.statement[k]].word !== words.get(rowAt(run, k));
+  countSteps(run, (k) => (k === 1 || rowAt(run, k) !== rowAt(run, k - 1) || run.statement[k] <= run.statement[k - 1]) && !isEnd(k));
+}
+
+// The first piece of a step begins elsewhere.
+function beginElsewhere(run, step) {
+  const i = run.pieceFrom[step];
+  if (i < run.pieceFrom[step + 1] && run.kinds[i] !== \"x\") run.kinds[i] = \"e\";
+}
+
+// The boxes of a probe, from lines `Q NAME LOW HIGH`, each with its contacts in the run and with how much room is left round it, from the lines of its clearance.
 function readBoxes(run, text) {
   const named = (name) => run.boxes.find((it) => it.name === name);
   for (const row of text.split(\"\\n\")) {
@@ -240,7 +292,12 @@ function readNames(run, text) {
 
 // ---- what is asked of a run
 
-// a block by its number, and its name where it has one
+"
+}
+
+/// Part 7 of the script.
+pub(crate) fn script_7() -> &'static [u8] {
+    b"// a block by its number, and its name where it has one
 const blockText = (run, number) => \"block \" + number + (run.names.has(number) ? ` \"${run.names.get(number)}\"` : \"\");
 
 // the line of the shown text that a statement stands on: of a program its source line, of a listing its own
@@ -251,12 +308,7 @@ const positionAt = (run, k) => [run.position[3 * k], run.position[3 * k + 1], ru
 
 // the statement that is next behind a step, or null behind the last one
 function nextAt(run, k) {
-"
-}
-
-/// Part 6 of the script.
-pub(crate) fn script_6() -> &'static [u8] {
-    b"  if (k < run.length) return { statement: run.statement[k + 1], line: run.line[k + 1] };
+  if (k < run.length) return { statement: run.statement[k + 1], line: run.line[k + 1] };
   return run.open;
 }
 
@@ -289,7 +341,12 @@ function shownAt(run, k) {
 
 // steps that move the probe or print
 function isEvent(run, k) {
-  return run.pieceFrom[k + 1] > run.pieceFrom[k] || /^(output|stop) /.test(run.done[k]);
+"
+}
+
+/// Part 8 of the script.
+pub(crate) fn script_8() -> &'static [u8] {
+    b"  return run.pieceFrom[k + 1] > run.pieceFrom[k] || /^(output|stop) /.test(run.done[k]);
 }
 
 // What is said of a run in words: how it ended, what a step did, how wide the tip is, how far a point is off.
@@ -298,12 +355,7 @@ const stopWords = { TRAVEL: \"Outside the limits\", MISSED: \"Touched nothing\" 
 const countText = (n, one, more) => n.toLocaleString(\"en\") + \" \" + (n === 1 ? one : more);
 const tipText = (run) => (run.tip ? `tip \\u2300 ${millimetres(2 * run.tip)} mm` : \"tip a point\");
 const frameText = (frame) => (frame.name ? frame.name + \": \" : \"\") + \"origin \" + frame.origin.map(millimetres).join(\" \") + \", X \" + frame.axes[0] + \", Y \" + frame.axes[1] + \", Z \" + frame.axes[2];
-"
-}
-
-/// Part 7 of the script.
-pub(crate) fn script_7() -> &'static [u8] {
-    b"const metText = (run, box, contact) => `${box.name} meets ${blockText(run, contact.block)}`;
+const metText = (run, box, contact) => `${box.name} meets ${blockText(run, contact.block)}`;
 
 // The line on which the run stopped before its end, or 0.
 const stopLineOf = (run) => (run.stop && !run.stop.text.startsWith(\"stop ENDED\") ? rowAt(run, run.stop.step) : 0);
@@ -325,7 +377,12 @@ function endingOf(run) {
 // How far the probe came on the way to a contact, in millimetres; in thousandths where the way isn't in the page.
 function wayText(run, kind, permille) {
   const i = run.kinds.lastIndexOf(\"x\"), { contact } = run;
-  if (i < 0 || !contact || run.pieceStep[i] !== contact.step) return `after ${permille} thousandths of the ${kind}`;
+"
+}
+
+/// Part 9 of the script.
+pub(crate) fn script_9() -> &'static [u8] {
+    b"  if (i < 0 || !contact || run.pieceStep[i] !== contact.step) return `after ${permille} thousandths of the ${kind}`;
   // of the way that is stopped the piece up to the contact stands before that which isn't reached
   const before = run.ends.subarray(i > run.pieceFrom[contact.step] ? 6 * (i - 1) : 6 * i);
   const aim = run.aims.has(i) ? run.aims.get(i).map((it) => 1000 * Number(it)) : run.ends.subarray(6 * i + 3);
@@ -333,12 +390,10 @@ function wayText(run, kind, permille) {
   return `${far(contact.at)} mm into ${kind === \"approach\" ? \"an\" : \"a\"} ${kind} of ${far(aim)} mm`;
 }
 
-"
-}
+// Whether something of the text wasn't tried.
+const isPartly = (run) => run.untried !== null && run.untried.told.length > 0;
 
-/// Part 8 of the script.
-pub(crate) fn script_8() -> &'static [u8] {
-    b"// The verdict of the page: what the boxes of the probe meet is told first, and then how the run ended.
+// The verdict of the page: what the boxes of the probe meet is told first, and then how the run ended.
 function verdictOf(run) {
   const told = endingOf(run), first = run.firstMet, more = run.boxes.filter((it) => it.contacts.length).length - 1;
   if (!first) return told;
@@ -346,20 +401,38 @@ function verdictOf(run) {
   return { ...told, kind: \"bad\", text: told.kind === \"ok\" ? `${text}; the tip itself meets nothing` : `${text}; ${told.text}` };
 }
 
+// The verdict with what wasn't tried: what ended well is no more than that, and no run is green of which something wasn't tried.
+function verdictWithUntried(run) {
+  const told = verdictOf(run);
+  if (!isPartly(run)) return told;
+  const text = `${told.text}; not all of it was tried`;
+  return told.kind === \"ok\" ? { ...told, kind: \"warn\", sign: \"?\", text } : { ...told, text };
+}
+
 // What a page is about, in numbers.
 function factsOf(run) {
   const facts = [countText(run.length + run.from, \"step\", \"steps\"), countText(run.blocks.length, \"block\", \"blocks\"), tipText(run)];
   if (run.touches.length) facts.push(countText(run.touches.length, \"measured point\", \"measured points\"));
-  if (run.boxes.length) facts.push(countText(run.boxes.length, \"box of the probe\", \"boxes of the probe\"));
+"
+}
+
+/// Part 10 of the script.
+pub(crate) fn script_10() -> &'static [u8] {
+    b"  if (run.boxes.length) facts.push(countText(run.boxes.length, \"box of the probe\", \"boxes of the probe\"));
   if (run.notices.length) facts.push(countText(run.notices.length, \"notice\", \"notices\"));
   return facts.join(\" \\u00b7 \") + (run.from ? ` \\u00b7 shown: the last ${run.length.toLocaleString(\"en\")} steps` : \"\");
 }
 
+// The word of a step's statement, but of one that carries what is known.
+const wordAt = (run, k) => (run.done[k] === CARRIED ? \"\" : run.code[run.statement[k]].word);
+
 // What a step did, for a reader.
 function doneText(run, k) {
   if (k === 0) return run.from ? \"the steps before this are not in this page\" : \"the start\";
+  if (run.untried && run.untried.steps.has(k)) return run.untried.steps.get(k);
   const said = run.done[k], next = /(?:^| )next (\\d+)$/.exec(said);
   const where = next && run.code[Number(next[1])] ? \"on to line \" + run.code[Number(next[1])].line : \"\";
+  if (said === CARRIED) return CARRIED;
   if (said === \"moved\") return \"to \" + positionAt(run, k).map(millimetres).join(\" \");
   if (said.startsWith(\"stop \")) return said;
   if (said.startsWith(\"FA(\")) return said.replace(/^FA\\((\\w+)\\) /, \"$1 touched at \");
@@ -370,12 +443,7 @@ function doneText(run, k) {
   return where;
 }
 
-"
-}
-
-/// Part 9 of the script.
-pub(crate) fn script_9() -> &'static [u8] {
-    b"// How far an actual point lies from its nominal one along its direction, in micrometres.
+// How far an actual point lies from its nominal one along its direction, in micrometres.
 function deviationOf(run, name, step) {
   const nominal = run.nominal.get(name), actual = run.actual.get(name);
   const n = nominal && nominal.at(step), a = actual && actual.at(step);
@@ -388,7 +456,12 @@ function deviationOf(run, name, step) {
 const $ = (id) => document.getElementById(id);
 
 function element(tag, text, className) {
-  const it = document.createElement(tag);
+"
+}
+
+/// Part 11 of the script.
+pub(crate) fn script_11() -> &'static [u8] {
+    b"  const it = document.createElement(tag);
   if (text !== undefined) it.textContent = text;
   if (className) it.className = className;
   return it;
@@ -432,12 +505,7 @@ function setClass(it, className) {
   if (it.className !== className) it.className = className;
 }
 
-"
-}
-
-/// Part 10 of the script.
-pub(crate) fn script_10() -> &'static [u8] {
-    b"// The three views, on plain canvases: blocks, the way, touched points, home, the tip and the contact. All three have one centre and one
+// The three views, on plain canvases: blocks, the way, touched points, home, the tip and the contact. All three have one centre and one
 // scale, so that they stay in line with each other.
 
 const sheets = {
@@ -445,15 +513,20 @@ const sheets = {
   front: { right: 0, up: 2, name: \"Front view\", order: (a, b) => b[1] - a[1], near: (b) => -b[1] },
   side: { right: 1, up: 2, name: \"Right side view\", order: (a, b) => a[3] - b[3], near: (b) => b[3] },
 };
-const kindNames = { m: \"move\", a: \"approach\", s: \"search\", r: \"retract\", x: \"not reached\" };
-const dashes = { m: [], a: [7, 4], s: [], r: [2, 4], x: [5, 5] };
-const widths = { m: 1.6, a: 1.6, s: 2.6, r: 1.8, x: 1.2 };
+const kindNames = { m: \"move\", a: \"approach\", s: \"search\", r: \"retract\", x: \"not reached\", e: \"begins elsewhere\" };
+const dashes = { m: [], a: [7, 4], s: [], r: [2, 4], x: [5, 5], e: [11, 6] };
+"
+}
+
+/// Part 12 of the script.
+pub(crate) fn script_12() -> &'static [u8] {
+    b"const widths = { m: 1.6, a: 1.6, s: 2.6, r: 1.8, x: 1.2, e: 1.6 };
 
 // The colours of the scheme that is shown, as the style sheet has them.
 function readColours() {
   const style = getComputedStyle(document.documentElement);
   const get = (name) => style.getPropertyValue(\"--\" + name).trim();
-  const names = [\"paper\", \"ink\", \"muted\", \"grid\", \"block\", \"block-high\", \"block-line\", \"hit\", \"hit-line\", \"m\", \"a\", \"s\", \"r\", \"x\", \"probe\", \"accent\", \"danger\"];
+  const names = [\"paper\", \"ink\", \"muted\", \"grid\", \"block\", \"block-high\", \"block-line\", \"hit\", \"hit-line\", \"m\", \"a\", \"s\", \"r\", \"x\", \"e\", \"probe\", \"accent\", \"danger\"];
   return Object.fromEntries(names.map((name) => [name, get(name)]));
 }
 
@@ -480,12 +553,7 @@ function boxOf(points) {
 }
 
 function* pointsOfPart(run) {
-"
-}
-
-/// Part 11 of the script.
-pub(crate) fn script_11() -> &'static [u8] {
-    b"  for (const b of run.blocks) for (let n = 0; n < 8; n++) yield [b[n & 1 ? 3 : 0], b[n & 2 ? 4 : 1], b[n & 4 ? 5 : 2]];
+  for (const b of run.blocks) for (let n = 0; n < 8; n++) yield [b[n & 1 ? 3 : 0], b[n & 2 ? 4 : 1], b[n & 4 ? 5 : 2]];
 }
 function* pointsOfWhole(run) {
   yield run.home;
@@ -500,7 +568,12 @@ class Labels {
   }
   put(text, x, y, colour, always = false, away = 10) {
     const g = this.g;
-    if (this.points.some((it) => it[0] === text && Math.hypot(it[1] - x, it[2] - y) < 8)) return;
+"
+}
+
+/// Part 13 of the script.
+pub(crate) fn script_13() -> &'static [u8] {
+    b"    if (this.points.some((it) => it[0] === text && Math.hypot(it[1] - x, it[2] - y) < 8)) return;
     this.points.push([text, x, y]);
     g.font = \"600 11px system-ui, sans-serif\";
     const w = g.measureText(text).width;
@@ -533,12 +606,7 @@ class Sheet {
     this.camera = camera;
     this.fixed = document.createElement(\"canvas\");
     this.fixedFor = \"\";
-"
-}
-
-/// Part 12 of the script.
-pub(crate) fn script_12() -> &'static [u8] {
-    b"    this.sorted = run.blocks.map((b, i) => ({ b, number: i + 1 })).sort((p, q) => this.sheet.order(p.b, q.b) || q.number - p.number);
+    this.sorted = run.blocks.map((b, i) => ({ b, number: i + 1 })).sort((p, q) => this.sheet.order(p.b, q.b) || q.number - p.number);
     const nears = run.blocks.map(this.sheet.near);
     this.least = nears.reduce((a, b) => Math.min(a, b), Infinity);
     this.most = nears.reduce((a, b) => Math.max(a, b), -Infinity);
@@ -554,7 +622,12 @@ pub(crate) fn script_12() -> &'static [u8] {
       this.canvas.height = h;
       this.fixedFor = \"\";
     }
-    return w > 0 && h > 0;
+"
+}
+
+/// Part 14 of the script.
+pub(crate) fn script_14() -> &'static [u8] {
+    b"    return w > 0 && h > 0;
   }
 
   x(p) { return this.width / 2 + (p - this.camera.centre[this.sheet.right]) * this.camera.scale; }
@@ -587,12 +660,7 @@ pub(crate) fn script_12() -> &'static [u8] {
     g.strokeStyle = colours.grid;
     g.lineWidth = 1;
     g.beginPath();
-"
-}
-
-/// Part 13 of the script.
-pub(crate) fn script_13() -> &'static [u8] {
-    b"    const half = this.width / 2 / scale, high = this.height / 2 / scale;
+    const half = this.width / 2 / scale, high = this.height / 2 / scale;
     for (let x = Math.ceil((centre[right] - half) / step) * step; x <= centre[right] + half; x += step) { g.moveTo(this.x(x), 0); g.lineTo(this.x(x), this.height); }
     for (let y = Math.ceil((centre[up] - high) / step) * step; y <= centre[up] + high; y += step) { g.moveTo(0, this.y(y)); g.lineTo(this.width, this.y(y)); }
     g.stroke();
@@ -603,7 +671,12 @@ pub(crate) fn script_13() -> &'static [u8] {
     g.setLineDash([]);
   }
 
-  drawScale(g, colours) {
+"
+}
+
+/// Part 15 of the script.
+pub(crate) fn script_15() -> &'static [u8] {
+    b"  drawScale(g, colours) {
     const step = niceStep(44 / this.camera.scale), long = step * this.camera.scale, text = step < 1000 ? step + \" \\u00b5m\" : step / 1000 + \" mm\";
     g.font = \"11px system-ui, sans-serif\";
     for (const [colour, wide] of [[colours.paper, 4], [colours.ink, 1]]) {
@@ -628,12 +701,7 @@ pub(crate) fn script_13() -> &'static [u8] {
       const isHit = met.includes(number);
       g.fillStyle = isHit ? colours.hit : between(colours.block, colours[\"block-high\"], span ? (near(b) - this.least) / span : 1);
       g.fillRect(x, y, w, h);
-"
-}
-
-/// Part 14 of the script.
-pub(crate) fn script_14() -> &'static [u8] {
-    b"      g.strokeStyle = isHit ? colours[\"hit-line\"] : colours[\"block-line\"];
+      g.strokeStyle = isHit ? colours[\"hit-line\"] : colours[\"block-line\"];
       g.lineWidth = isHit ? 2 : many ? 0.5 : 1;
       g.strokeRect(x, y, w, h);
       const text = String(number);
@@ -649,8 +717,13 @@ pub(crate) fn script_14() -> &'static [u8] {
   drawPieces(g, colours, from, to, wide) {
     const { right, up } = this.sheet, ends = this.run.ends, kinds = this.run.kinds;
     const thin = this.run.kinds.length > 2000 ? 0.6 : 1;
-    for (const kind of \"maxrs\") {
-      g.strokeStyle = colours[kind];
+    for (const kind of \"meaxrs\") {
+"
+}
+
+/// Part 16 of the script.
+pub(crate) fn script_16() -> &'static [u8] {
+    b"      g.strokeStyle = colours[kind];
       g.lineWidth = widths[kind] * wide * thin;
       g.setLineDash(to - from > 20000 ? [] : dashes[kind]);
       // a stroke of very many pieces that lie over each other is slow: so few in one go, and none that would not be seen
@@ -680,12 +753,7 @@ pub(crate) fn script_14() -> &'static [u8] {
     g.drawImage(this.fixed, 0, 0);
     g.setTransform(this.ratio, 0, 0, this.ratio, 0, 0);
     g.lineCap = \"round\";
-"
-}
-
-/// Part 15 of the script.
-pub(crate) fn script_15() -> &'static [u8] {
-    b"    const now = run.pieceFrom[k], end = k ? run.pieceFrom[k + 1] : 0;
+    const now = run.pieceFrom[k], end = k ? run.pieceFrom[k + 1] : 0;
     // of a long run the last part alone is drawn strongly
     this.drawPieces(g, colours, Math.max(0, now - 2500), now, 1);
     for (let i = now; i < end; i++) this.drawCurrent(g, colours, i);
@@ -694,7 +762,12 @@ pub(crate) fn script_15() -> &'static [u8] {
     for (let i = Math.max(0, touched - 2500); i < touched; i++) this.dot(g, colours, run.touches[i].at, colours.s, many ? 2 : 3.5);
     this.labels = new Labels(g, colours, this.width, this.height);
     this.labels.keep(...this.place(probe), 7);
-    if (run.contact && run.contact.step === k) this.labels.put(blockText(run, run.contact.block), ...this.place(run.contact.at), colours.danger, true, Math.max(10, run.tip * this.camera.scale + 5));
+"
+}
+
+/// Part 17 of the script.
+pub(crate) fn script_17() -> &'static [u8] {
+    b"    if (run.contact && run.contact.step === k) this.labels.put(blockText(run, run.contact.block), ...this.place(run.contact.at), colours.danger, true, Math.max(10, run.tip * this.camera.scale + 5));
     this.mark(g, colours, run.home, \"home\", colours.muted);
     this.drawBoxes(g, colours, k, probe);
     this.drawProbe(g, colours, probe);
@@ -717,12 +790,7 @@ pub(crate) fn script_15() -> &'static [u8] {
     if (long < 26 || kind === \"x\") return;
     const u = (p - x) / long, v = (q - y) / long, m = x + (p - x) * 0.6, n = y + (q - y) * 0.6;
     g.fillStyle = colours[kind];
-"
-}
-
-/// Part 16 of the script.
-pub(crate) fn script_16() -> &'static [u8] {
-    b"    g.beginPath(); g.moveTo(m + 8 * u, n + 8 * v); g.lineTo(m - 5 * u - 5 * v, n - 5 * v + 5 * u); g.lineTo(m - 5 * u + 5 * v, n - 5 * v - 5 * u); g.fill();
+    g.beginPath(); g.moveTo(m + 8 * u, n + 8 * v); g.lineTo(m - 5 * u - 5 * v, n - 5 * v + 5 * u); g.lineTo(m - 5 * u + 5 * v, n - 5 * v - 5 * u); g.fill();
   }
 
   dot(g, colours, at, colour, size) {
@@ -742,7 +810,12 @@ pub(crate) fn script_16() -> &'static [u8] {
   }
 
   names(touched, colour) {
-    for (let i = touched - 1; i >= 0; i--) this.labels.put(this.run.touches[i].name, ...this.place(this.run.touches[i].at), colour);
+"
+}
+
+/// Part 18 of the script.
+pub(crate) fn script_18() -> &'static [u8] {
+    b"    for (let i = touched - 1; i >= 0; i--) this.labels.put(this.run.touches[i].name, ...this.place(this.run.touches[i].at), colour);
   }
 
   drawProbe(g, colours, at) {
@@ -775,12 +848,7 @@ pub(crate) fn script_16() -> &'static [u8] {
     const x = this.x(at[right] + box.low[right]), y = this.y(at[up] + box.high[up]);
     g.strokeStyle = colour;
     g.lineWidth = width;
-"
-}
-
-/// Part 17 of the script.
-pub(crate) fn script_17() -> &'static [u8] {
-    b"    g.strokeRect(x, y, this.x(at[right] + box.high[right]) - x, this.y(at[up] + box.low[up]) - y);
+    g.strokeRect(x, y, this.x(at[right] + box.high[right]) - x, this.y(at[up] + box.low[up]) - y);
   }
 
   drawContact(g, colours, contact) {
@@ -797,7 +865,12 @@ pub(crate) fn script_17() -> &'static [u8] {
     const { right, up } = this.sheet, ends = this.run.ends;
     let best = 8, found = -1;
     for (let i = 0; i < this.run.kinds.length; i++) {
-      const away = distance(x, y, this.x(ends[6 * i + right]), this.y(ends[6 * i + up]), this.x(ends[6 * i + 3 + right]), this.y(ends[6 * i + 3 + up]));
+"
+}
+
+/// Part 19 of the script.
+pub(crate) fn script_19() -> &'static [u8] {
+    b"      const away = distance(x, y, this.x(ends[6 * i + right]), this.y(ends[6 * i + up]), this.x(ends[6 * i + 3 + right]), this.y(ends[6 * i + 3 + up]));
       if (away < best) { best = away; found = i; }
     }
     if (found >= 0) return { piece: found };
@@ -824,28 +897,28 @@ const blockShader = [
      shown = mix(tone, high, light) * (0.72 + 0.28 * light); }`,
   `precision mediump float; varying vec3 shown; void main() { gl_FragColor = vec4(shown, 1.0); }`,
 ];
-"
-}
-
-/// Part 18 of the script.
-pub(crate) fn script_18() -> &'static [u8] {
-    b"const lineShader = [
+const lineShader = [
   `attribute vec3 at; uniform mat4 look; uniform float lift; void main() { gl_Position = look * vec4(at, 1.0); gl_Position.z -= lift; }`,
   `precision mediump float; uniform vec4 colour; void main() { gl_FragColor = colour; }`,
 ];
 // A piece is two triangles that are as wide on the screen as they should; those behind this step are faint, those of it are wider.
 const wayShader = [
-  `attribute vec3 from, to; attribute vec2 corner; attribute vec2 piece; uniform mat4 look; uniform vec2 size; uniform float now; uniform vec4 colours[5]; uniform float faint, wide;
+  `attribute vec3 from, to; attribute vec2 corner; attribute vec2 piece; uniform mat4 look; uniform vec2 size; uniform float now; uniform vec4 colours[6]; uniform float faint, wide;
    varying vec4 shown; varying float along; varying float kind;
-   void main() { vec4 a = look * vec4(from, 1.0), b = look * vec4(to, 1.0); vec2 way = (b.xy - a.xy) * size; float len = max(length(way), 0.001);
+"
+}
+
+/// Part 20 of the script.
+pub(crate) fn script_20() -> &'static [u8] {
+    b"   void main() { vec4 a = look * vec4(from, 1.0), b = look * vec4(to, 1.0); vec2 way = (b.xy - a.xy) * size; float len = max(length(way), 0.001);
      vec2 across = vec2(-way.y, way.x) / len; float w = (piece.x == now ? 2.2 : 1.0) * wide * (piece.y > 2.5 && piece.y < 3.5 ? 1.5 : 1.0);
      vec4 p = mix(a, b, corner.x); p.xy += across * corner.y * w / size; p.z -= 0.0006; gl_Position = p;
-     int n = int(piece.y + 0.5); shown = n == 0 ? colours[0] : n == 1 ? colours[1] : n == 2 ? colours[2] : n == 3 ? colours[3] : colours[4];
+     int n = int(piece.y + 0.5); shown = n == 0 ? colours[0] : n == 1 ? colours[1] : n == 2 ? colours[2] : n == 3 ? colours[3] : n == 4 ? colours[4] : colours[5];
      shown.a *= faint * (piece.x > now ? 0.22 : 1.0); along = corner.x * len; kind = piece.y; }`,
   `precision mediump float; varying vec4 shown; varying float along, kind;
-   void main() { float n = floor(kind + 0.5); if ((n == 1.0 || n == 4.0) && mod(along, 11.0) > 7.0) discard; if (n == 2.0 && mod(along, 6.0) > 2.5) discard; gl_FragColor = vec4(shown.rgb * shown.a, shown.a); }`,
+   void main() { float n = floor(kind + 0.5); if ((n == 1.0 || n == 4.0) && mod(along, 11.0) > 7.0) discard; if (n == 5.0 && mod(along, 17.0) > 11.0) discard; if (n == 2.0 && mod(along, 6.0) > 2.5) discard; gl_FragColor = vec4(shown.rgb * shown.a, shown.a); }`,
 ];
-const wayKinds = \"marsx\";
+const wayKinds = \"marsxe\";
 
 class Solid {
   constructor(run, canvas, over, camera) {
@@ -859,12 +932,7 @@ class Solid {
     this.frames = 0;
     this.isSlow = false;
     this.gl = canvas.getContext(\"webgl\", { antialias: run.blocks.length < 1000 && run.kinds.length < 5000, alpha: false, preserveDrawingBuffer: true });
-"
-}
-
-/// Part 19 of the script.
-pub(crate) fn script_19() -> &'static [u8] {
-    b"    if (!this.gl) return;
+    if (!this.gl) return;
     this.blockProgram = this.program(blockShader);
     this.lineProgram = this.program(lineShader);
     this.wayProgram = this.program(wayShader);
@@ -878,7 +946,12 @@ pub(crate) fn script_19() -> &'static [u8] {
     this.makeFloor();
   }
 
-  program([vertex, fragment]) {
+"
+}
+
+/// Part 21 of the script.
+pub(crate) fn script_21() -> &'static [u8] {
+    b"  program([vertex, fragment]) {
     const gl = this.gl, program = gl.createProgram();
     for (const [kind, text] of [[gl.VERTEX_SHADER, vertex], [gl.FRAGMENT_SHADER, fragment]]) {
       const shader = gl.createShader(kind);
@@ -907,12 +980,7 @@ pub(crate) fn script_19() -> &'static [u8] {
     let f = 0, e = 0;
     this.run.blocks.forEach((b) => {
       const low = this.local(b), high = this.local(b.slice(3));
-"
-}
-
-/// Part 20 of the script.
-pub(crate) fn script_20() -> &'static [u8] {
-    b"      const corner = (list, at, c) => { list[at] = c & 1 ? high[0] : low[0]; list[at + 1] = c & 2 ? high[1] : low[1]; list[at + 2] = c & 4 ? high[2] : low[2]; };
+      const corner = (list, at, c) => { list[at] = c & 1 ? high[0] : low[0]; list[at + 1] = c & 2 ? high[1] : low[1]; list[at + 2] = c & 4 ? high[2] : low[2]; };
       for (const [p, q, r, t, x, y, z] of sides) for (const c of [p, q, r, p, r, t]) {
         corner(faces, f, c);
         faces[f + 3] = x; faces[f + 4] = y; faces[f + 5] = z;
@@ -928,7 +996,12 @@ pub(crate) fn script_20() -> &'static [u8] {
     const run = this.run, n = run.kinds.length, numbers = new Float32Array(n * 6 * 10);
     let o = 0;
     for (let i = 0; i < n; i++) {
-      const a = this.local(run.ends.subarray(6 * i, 6 * i + 3)), b = this.local(run.ends.subarray(6 * i + 3, 6 * i + 6));
+"
+}
+
+/// Part 22 of the script.
+pub(crate) fn script_22() -> &'static [u8] {
+    b"      const a = this.local(run.ends.subarray(6 * i, 6 * i + 3)), b = this.local(run.ends.subarray(6 * i + 3, 6 * i + 6));
       for (const [t, s] of [[0, -1], [1, -1], [1, 1], [0, -1], [1, 1], [0, 1]]) {
         numbers.set(a, o); numbers.set(b, o + 3);
         numbers[o + 6] = t; numbers[o + 7] = s; numbers[o + 8] = run.pieceStep[i]; numbers[o + 9] = wayKinds.indexOf(run.kinds[i]);
@@ -948,12 +1021,7 @@ pub(crate) fn script_20() -> &'static [u8] {
 
   // Where a point stands on the screen: right, up and depth, as pixels from the middle.
   seen(p) {
-"
-}
-
-/// Part 21 of the script.
-pub(crate) fn script_21() -> &'static [u8] {
-    b"    const c = this.centre(), sa = Math.sin(this.azimuth), ca = Math.cos(this.azimuth), se = Math.sin(this.elevation), ce = Math.cos(this.elevation);
+    const c = this.centre(), sa = Math.sin(this.azimuth), ca = Math.cos(this.azimuth), se = Math.sin(this.elevation), ce = Math.cos(this.elevation);
     const x = p[0] - c[0], y = p[1] - c[1], z = p[2] - c[2], s = this.scale();
     const right = ca * x + sa * y, away = -sa * x + ca * y;
     return [right * s, (away * se + z * ce) * s, (away * ce - z * se) * s];
@@ -965,7 +1033,12 @@ pub(crate) fn script_21() -> &'static [u8] {
 
   // The greatest scale with which points are in view, in the middle of which the view is put.
   fit(points, width, height) {
-    const sa = Math.sin(this.azimuth), ca = Math.cos(this.azimuth), se = Math.sin(this.elevation), ce = Math.cos(this.elevation), c = this.camera.centre;
+"
+}
+
+/// Part 23 of the script.
+pub(crate) fn script_23() -> &'static [u8] {
+    b"    const sa = Math.sin(this.azimuth), ca = Math.cos(this.azimuth), se = Math.sin(this.elevation), ce = Math.cos(this.elevation), c = this.camera.centre;
     let left = Infinity, right = -Infinity, low = Infinity, high = -Infinity;
     for (const p of points) {
       const x = p[0] - c[0], y = p[1] - c[1], z = p[2] - c[2], u = ca * x + sa * y, v = (ca * y - sa * x) * se + z * ce;
@@ -984,12 +1057,7 @@ pub(crate) fn script_21() -> &'static [u8] {
     const m = new Float32Array(16);
     rows.forEach((row, r) => {
       for (let k = 0; k < 3; k++) m[4 * k + r] = row[k];
-"
-}
-
-/// Part 22 of the script.
-pub(crate) fn script_22() -> &'static [u8] {
-    b"      m[12 + r] = -(row[0] * c[0] + row[1] * c[1] + row[2] * c[2]);
+      m[12 + r] = -(row[0] * c[0] + row[1] * c[1] + row[2] * c[2]);
     });
     m[15] = 1;
     return m;
@@ -1007,7 +1075,12 @@ pub(crate) fn script_22() -> &'static [u8] {
     }
     const { low, high } = this.box, c = this.centre();
     this.depth = (Math.hypot(...low.map((x, i) => Math.max(high[i] - c[i], c[i] - x, 1))) * 1.5) / 1000 + 1;
-    const gl = this.gl, look = this.matrix(), rgb = (name) => [0, 1, 2].map((i) => parseInt(colours[name].slice(1 + 2 * i, 3 + 2 * i), 16) / 255);
+"
+}
+
+/// Part 24 of the script.
+pub(crate) fn script_24() -> &'static [u8] {
+    b"    const gl = this.gl, look = this.matrix(), rgb = (name) => [0, 1, 2].map((i) => parseInt(colours[name].slice(1 + 2 * i, 3 + 2 * i), 16) / 255);
     gl.viewport(0, 0, this.canvas.width, this.canvas.height);
     gl.clearColor(...rgb(\"paper\"), 1);
     gl.clear(gl.COLOR_BUFFER_BIT | gl.DEPTH_BUFFER_BIT);
@@ -1030,12 +1103,7 @@ pub(crate) fn script_22() -> &'static [u8] {
     };
     lines(this.ground, \"grid\", 1, 0);
     begin(this.blockProgram);
-"
-}
-
-/// Part 23 of the script.
-pub(crate) fn script_23() -> &'static [u8] {
-    b"    gl.bindBuffer(gl.ARRAY_BUFFER, this.faces.buffer);
+    gl.bindBuffer(gl.ARRAY_BUFFER, this.faces.buffer);
     attribute(this.blockProgram, \"at\", 3, 6, 0);
     attribute(this.blockProgram, \"face\", 3, 6, 3);
     const tones = (low, high) => { for (const [name, colour] of [[\"tone\", low], [\"high\", high]]) gl.uniform3f(gl.getUniformLocation(this.blockProgram, name), ...rgb(colour)); };
@@ -1045,7 +1113,12 @@ pub(crate) fn script_23() -> &'static [u8] {
     gl.depthFunc(gl.LEQUAL);
     tones(\"hit\", \"hit\");
     for (const number of metIn(this.run, k)) gl.drawArrays(gl.TRIANGLES, 36 * (number - 1), 36);
-    if (!this.isSlow || this.run.blocks.length <= 500) lines(this.edges, \"block-line\", this.run.blocks.length > 500 ? 0.45 : 1, 0.0004);
+"
+}
+
+/// Part 25 of the script.
+pub(crate) fn script_25() -> &'static [u8] {
+    b"    if (!this.isSlow || this.run.blocks.length <= 500) lines(this.edges, \"block-line\", this.run.blocks.length > 500 ? 0.45 : 1, 0.0004);
     const way = this.wayProgram;
     begin(way);
     gl.bindBuffer(gl.ARRAY_BUFFER, this.way.buffer);
@@ -1069,12 +1142,7 @@ pub(crate) fn script_23() -> &'static [u8] {
     }
     gl.depthMask(true);
     this.drawOver(colours, k, probe, ratio);
-"
-}
-
-/// Part 24 of the script.
-pub(crate) fn script_24() -> &'static [u8] {
-    b"    // how long a frame takes, waited for at the first ones: without a graphics processor it may be long
+    // how long a frame takes, waited for at the first ones: without a graphics processor it may be long
     if (this.frames < 3) {
       gl.readPixels(0, 0, 1, 1, gl.RGBA, gl.UNSIGNED_BYTE, new Uint8Array(4));
       if (this.frames > 0) this.isSlow = performance.now() - began > 60;
@@ -1087,7 +1155,12 @@ pub(crate) fn script_24() -> &'static [u8] {
     const g = this.over.getContext(\"2d\"), run = this.run;
     g.setTransform(ratio, 0, 0, ratio, 0, 0);
     g.clearRect(0, 0, this.width, this.height);
-    const touched = run.touchSteps.count(k), many = run.touches.length > 300, labels = new Labels(g, colours, this.width, this.height);
+"
+}
+
+/// Part 26 of the script.
+pub(crate) fn script_26() -> &'static [u8] {
+    b"    const touched = run.touchSteps.count(k), many = run.touches.length > 300, labels = new Labels(g, colours, this.width, this.height);
     if (!many) for (let i = 0; i < touched; i++) {
       const [x, y] = this.place(run.touches[i].at);
       g.fillStyle = colours.s; g.strokeStyle = colours.paper; g.lineWidth = 1;
@@ -1107,12 +1180,7 @@ pub(crate) fn script_24() -> &'static [u8] {
       const [cx, cy] = this.place(run.contact.at);
       for (const [colour, width] of [[colours.paper, 6], [colours.danger, 2.6]]) {
         g.strokeStyle = colour; g.lineWidth = width;
-"
-}
-
-/// Part 25 of the script.
-pub(crate) fn script_25() -> &'static [u8] {
-    b"        g.beginPath(); g.moveTo(cx - 7, cy - 7); g.lineTo(cx + 7, cy + 7); g.moveTo(cx + 7, cy - 7); g.lineTo(cx - 7, cy + 7); g.stroke();
+        g.beginPath(); g.moveTo(cx - 7, cy - 7); g.lineTo(cx + 7, cy + 7); g.moveTo(cx + 7, cy - 7); g.lineTo(cx - 7, cy + 7); g.stroke();
       }
     }
     for (const box of run.boxes) this.wire(g, box.low.map((low, i) => probe[i] + low), box.high.map((high, i) => probe[i] + high), 1);
@@ -1121,7 +1189,12 @@ pub(crate) fn script_25() -> &'static [u8] {
       this.wire(g, box.low.map((low, i) => contact.at[i] + low), box.high.map((high, i) => contact.at[i] + high), 2);
     }
     labels.keep(x, y, 7);
-    if (run.contact && run.contact.step === k) labels.put(blockText(run, run.contact.block), ...this.place(run.contact.at), colours.danger, true, Math.max(10, 1.4 * run.tip * this.scale() + 5));
+"
+}
+
+/// Part 27 of the script.
+pub(crate) fn script_27() -> &'static [u8] {
+    b"    if (run.contact && run.contact.step === k) labels.put(blockText(run, run.contact.block), ...this.place(run.contact.at), colours.danger, true, Math.max(10, 1.4 * run.tip * this.scale() + 5));
     labels.put(\"home\", hx, hy, colours.muted);
     if (run.touches.length <= 200) for (let i = touched - 1; i >= 0; i--) labels.put(run.touches[i].name, ...this.place(run.touches[i].at), colours.ink);
     const ox = 26, oy = this.height - 30;
@@ -1146,12 +1219,7 @@ pub(crate) fn script_25() -> &'static [u8] {
 
   turn(x, y) {
     this.azimuth -= x;
-"
-}
-
-/// Part 26 of the script.
-pub(crate) fn script_26() -> &'static [u8] {
-    b"    this.elevation = Math.max(0.02, Math.min(Math.PI / 2, this.elevation + y));
+    this.elevation = Math.max(0.02, Math.min(Math.PI / 2, this.elevation + y));
   }
 
   find(x, y) {
@@ -1166,7 +1234,12 @@ pub(crate) fn script_26() -> &'static [u8] {
   }
 }
 
-// The time line: how high the probe is behind each step, with what happens. What stays is drawn once; a step draws how far it has come, and its mark.
+"
+}
+
+/// Part 28 of the script.
+pub(crate) fn script_28() -> &'static [u8] {
+    b"// The time line: how high the probe is behind each step, with what happens. What stays is drawn once; a step draws how far it has come, and its mark.
 
 class Profile {
   constructor(run, canvas) {
@@ -1205,12 +1278,7 @@ class Profile {
       if (z < low) low = z;
       if (z > high) high = z;
     }
-"
-}
-
-/// Part 27 of the script.
-pub(crate) fn script_27() -> &'static [u8] {
-    b"    const y = (z) => h - 7 - (high > low ? ((z - low) / (high - low)) * (h - 16) : (h - 16) / 2), step = Math.max(1, n / (2 * inner));
+    const y = (z) => h - 7 - (high > low ? ((z - low) / (high - low)) * (h - 16) : (h - 16) / 2), step = Math.max(1, n / (2 * inner));
     g.beginPath();
     g.moveTo(this.x(0), h - 4);
     for (let k = 0; k < n; k += step) {
@@ -1220,7 +1288,12 @@ pub(crate) fn script_27() -> &'static [u8] {
         const z = run.position[3 * i + 2];
         if (z < least) least = z;
         if (z > most) most = z;
-      }
+"
+}
+
+/// Part 29 of the script.
+pub(crate) fn script_29() -> &'static [u8] {
+    b"      }
       g.lineTo(this.x(a), y(most));
       if (step > 1) g.lineTo(this.x(a), y(least));
     }
@@ -1259,12 +1332,7 @@ pub(crate) fn script_27() -> &'static [u8] {
     const g = this.canvas.getContext(\"2d\"), { width: w, height: h } = this.canvas, to = Math.round(this.x(k) * ratio);
     g.setTransform(1, 0, 0, 1, 0, 0);
     g.clearRect(0, 0, w, h);
-"
-}
-
-/// Part 28 of the script.
-pub(crate) fn script_28() -> &'static [u8] {
-    b"    g.drawImage(this.layers[0], 0, 0);
+    g.drawImage(this.layers[0], 0, 0);
     if (to > 0) g.drawImage(this.layers[1], 0, 0, to, h, 0, 0, to, h);
     g.drawImage(this.marks, 0, 0);
     g.setTransform(ratio, 0, 0, ratio, 0, 0);
@@ -1280,10 +1348,17 @@ const LINES_OF_PIECE = 100;
 class Listing {
   constructor(run, box) {
     this.run = run;
-    this.box = box;
+"
+}
+
+/// Part 30 of the script.
+pub(crate) fn script_30() -> &'static [u8] {
+    b"    this.box = box;
     this.stopLine = stopLineOf(run);
     this.stated = new Set(run.code.map((_, i) => rowOf(run, i)));
     this.noticed = new Map(run.notices.map((it) => [it.line, it.word]));
+    // lines of which something wasn't tried, each with what
+    this.untried = new Map([...(run.untried ? run.untried.lines : [])].map(([line, all]) => [line, all.map((it) => it.text + (it.count > 1 ? `, ${it.count} times` : \"\")).join(\"; \")]));
     this.touching = new Set(run.touches.map((it) => rowAt(run, it.step)));
     // lines in which a box of the probe meets a block, each with what it meets
     this.meeting = new Map(run.boxes.flatMap((own) => own.contacts.filter((it) => it.step > 0).map((it) => [rowAt(run, it.step), metText(run, own, it)])).reverse());
@@ -1309,12 +1384,7 @@ class Listing {
     if (isInView) {
       this.inView.add(piece);
       this.full(piece);
-"
-}
-
-/// Part 29 of the script.
-pub(crate) fn script_29() -> &'static [u8] {
-    b"    } else {
+    } else {
       this.inView.delete(piece);
       this.plain(piece);
     }
@@ -1323,7 +1393,12 @@ pub(crate) fn script_29() -> &'static [u8] {
     const from = Number(piece.dataset.from);
     return [from, Math.min(from + LINES_OF_PIECE, this.run.lines.length)];
   }
-  // A piece as a text alone; the one with a line that is marked stays.
+"
+}
+
+/// Part 31 of the script.
+pub(crate) fn script_31() -> &'static [u8] {
+    b"  // A piece as a text alone; the one with a line that is marked stays.
   plain(piece) {
     const [from, to] = this.linesOf(piece);
     if (piece.dataset.is === \"plain\" || this.marked.some((it) => it.parentElement === piece)) return;
@@ -1345,7 +1420,7 @@ pub(crate) fn script_29() -> &'static [u8] {
   row(n) {
     const { run } = this, row = element(\"div\", undefined, \"line\"), times = run.counts.get(n), isStop = n === this.stopLine || this.meeting.has(n);
     row.dataset.line = n;
-    const [text, kind, title] = isStop ? [\"\\u2715\", \" stop\", n === this.stopLine ? run.stop.text : this.meeting.get(n)] : this.touching.has(n) ? [\"\\u25cf\", \" touch\", \"measures\"] : this.noticed.has(n) ? [\"!\", \" notice\", this.noticed.get(n) + \" has no effect\"] : [\"\", \"\", \"\"];
+    const [text, kind, title] = isStop ? [\"\\u2715\", \" stop\", n === this.stopLine ? run.stop.text : this.meeting.get(n)] : this.untried.has(n) ? [\"?\", \" untried\", this.untried.get(n)] : this.touching.has(n) ? [\"\\u25cf\", \" touch\", \"measures\"] : this.noticed.has(n) ? [\"!\", \" notice\", this.noticed.get(n) + \" has no effect\"] : [\"\", \"\", \"\"];
     const sign = element(\"span\", text, \"sign\" + kind);
     if (title) sign.title = title;
     if (times) row.classList.add(\"ran\");
@@ -1353,6 +1428,7 @@ pub(crate) fn script_29() -> &'static [u8] {
       row.classList.add(\"idle\");
       row.title = \"not carried out in this run\";
     }
+    if (this.untried.has(n)) row.classList.add(\"untried\");
     row.append(element(\"span\", String(n), \"number\"), sign, this.coloured(run.lines[n - 1]));
     if (times && times.length > 1) {
       const count = element(\"span\", \"\\u00d7\" + times.length.toLocaleString(\"en\"), \"times\");
@@ -1360,17 +1436,17 @@ pub(crate) fn script_29() -> &'static [u8] {
       row.append(count);
     }
     row.append(element(\"span\", \"\", \"done\"));
-"
-}
-
-/// Part 30 of the script.
-pub(crate) fn script_30() -> &'static [u8] {
-    b"    return row;
+    return row;
   }
   coloured(text) {
     const row = element(\"code\");
     if (/^\\s*\\$\\$/.test(text)) {
-      row.append(element(\"i\", text));
+"
+}
+
+/// Part 32 of the script.
+pub(crate) fn script_32() -> &'static [u8] {
+    b"      row.append(element(\"i\", text));
       return row;
     }
     for (const piece of text.split(/('[^']*')/)) row.append(piece[0] === \"'\" ? element(\"q\", piece) : piece);
@@ -1413,16 +1489,16 @@ pub(crate) fn script_30() -> &'static [u8] {
     const high = this.box.clientHeight, top = 6 + 20.5 * (n - 1);
     if (high === 0) return;
     const at = this.box.scrollTop;
-"
-}
-
-/// Part 31 of the script.
-pub(crate) fn script_31() -> &'static [u8] {
-    b"    if (top - at < 24 || top - at > high - 60) this.box.scrollTop = top - high / 2.4;
+    if (top - at < 24 || top - at > high - 60) this.box.scrollTop = top - high / 2.4;
   }
   // On paper stand all lines.
   forPaper(is) {
-    for (const it of this.pieces) if (is) this.full(it); else if (!this.inView.has(it)) this.plain(it);
+"
+}
+
+/// Part 33 of the script.
+pub(crate) fn script_33() -> &'static [u8] {
+    b"    for (const it of this.pieces) if (is) this.full(it); else if (!this.inView.has(it)) this.plain(it);
   }
 }
 
@@ -1444,19 +1520,19 @@ class Panel {
       $(\"settings\").append(element(\"dt\", name), value);
       return { it, value };
     });
-    this.boxes = run.boxes.flatMap((box) => (box.contacts.length ? box.contacts.slice(0, MOST_CONTACTS).map((contact, i) => this.boxRow(i ? \"\" : box.name, `${contact.kind} ${blockText(run, contact.block)} at ${contact.at.map(millimetres).join(\" \")}`, contact)) : [this.boxRow(box.name, `clear by ${millimetres(box.room)} mm${box.room < 50000 ? \"\" : \" or more\"}`, null)]));
+    this.boxes = run.boxes.flatMap((box) => (box.contacts.length ? box.contacts.slice(0, MOST_CONTACTS).map((contact, i) => this.boxRow(i ? \"\" : box.name, `${contact.kind} ${blockText(run, contact.block)} at ${contact.at.map(millimetres).join(\" \")}`, contact)) : [this.boxRow(box.name, `clear by ${millimetres(box.room)} mm${box.room < 50000 ? \"\" : \" or more\"}${isPartly(run) ? \", on the ways that were tried\" : \"\"}`, null)]));
     $(\"boxes\").tBodies[0].replaceChildren(...this.boxes.map((it) => it.row));
     for (const [id, has] of [[\"variables-section\", run.variables.size], [\"points-section\", run.touches.length], [\"boxes-section\", run.boxes.length], [\"output-section\", run.output.steps.length], [\"notices-section\", run.notices.length]]) $(id).hidden = has === 0;
     $(\"variables-filter\").hidden = run.variables.size <= 20;
     for (const it of run.notices.slice(0, 200)) $(\"notices\").append(element(\"li\", `line ${it.line}: ${it.word} has no effect`));
   }
+  jump(step, text) {
 "
 }
 
-/// Part 32 of the script.
-pub(crate) fn script_32() -> &'static [u8] {
-    b"  jump(step, text) {
-    const it = element(\"button\", text || String(step + this.run.from), \"jump\");
+/// Part 34 of the script.
+pub(crate) fn script_34() -> &'static [u8] {
+    b"    const it = element(\"button\", text || String(step + this.run.from), \"jump\");
     it.type = \"button\";
     it.dataset.step = step;
     it.title = \"to step \" + (step + this.run.from);
@@ -1478,22 +1554,23 @@ pub(crate) fn script_32() -> &'static [u8] {
   showStep(k) {
     const { run } = this, stops = k > 0 && run.stop !== null && k === run.stop.step, fails = stops && this.stopLine > 0;
     const met = contactsIn(run, k).map(({ box, contact }) => `${metText(run, box, contact)} at ${contact.at.map(millimetres).join(\" \")}, in its ${contact.kind.toLowerCase()}`);
-    const ended = fails ? this.ending.text + \". The probe stays where it was.\" : stops ? \"the run has come to its end\" : doneText(run, k);
-    setText($(\"step-title\"), k === 0 ? (run.from ? \"Behind step \" + run.from : \"Start\") : \"Step \" + (k + run.from) + \" \\u00b7 line \" + run.line[k] + \" \\u00b7 \" + run.code[run.statement[k]].word);
+    const untried = run.untried && run.untried.steps.has(k);
+    const ended = fails ? this.ending.text + \". The probe stays where it was.\" : stops ? \"the run has come to its end\" + (isPartly(run) ? \"; not all of it was tried\" : \"\") : doneText(run, k);
+    setText($(\"step-title\"), k === 0 ? (run.from ? \"Behind step \" + run.from : \"Start\") : \"Step \" + (k + run.from) + \" \\u00b7 line \" + run.line[k] + (wordAt(run, k) ? \" \\u00b7 \" + wordAt(run, k) : \"\"));
     setText($(\"step-done\"), [...met, ...(met.length && ended ? [\"then \" + ended] : [ended])].join(\"; \"));
     setText($(\"step-line\"), fails ? run.done[k] : \"\");
-    setClass($(\"step-done\"), \"done\" + (fails || met.length ? \" bad\" : stops && !run.firstMet ? \" ok\" : \"\"));
+    setClass($(\"step-done\"), \"done\" + (fails || met.length ? \" bad\" : untried || (stops && isPartly(run)) ? \" warn\" : stops && !run.firstMet ? \" ok\" : \"\"));
   }
   showProbe(k) {
     const { run } = this, at = positionAt(run, k), frame = run.frame.at(k), next = nextAt(run, k), places = [[\"Machine\", at]], entries = [], add = (name, value) => entries.push(element(\"dt\", name), typeof value === \"string\" ? element(\"dd\", value) : value);
     if (!isMachine(frame)) {
-      const set = run.frame.setAt(k), value = element(\"dd\", frame.name ? frame.name + \" \" : \"from before the first step shown\");
 "
 }
 
-/// Part 33 of the script.
-pub(crate) fn script_33() -> &'static [u8] {
-    b"      places.push([\"Part\", inFrame(frame, at)], [\"Origin\", frame.origin]);
+/// Part 35 of the script.
+pub(crate) fn script_35() -> &'static [u8] {
+    b"      const set = run.frame.setAt(k), value = element(\"dd\", frame.name ? frame.name + \" \" : \"from before the first step shown\");
+      places.push([\"Part\", inFrame(frame, at)], [\"Origin\", frame.origin]);
       if (set !== null) value.append(this.jump(set, \"set at step \" + (set + run.from)));
       add(\"Frame\", value);
       if (frame.axes.join() !== \"+X,+Y,+Z\") add(\"Axes\", \"X along \" + frame.axes[0] + \", Y \" + frame.axes[1] + \", Z \" + frame.axes[2]);
@@ -1506,14 +1583,27 @@ pub(crate) fn script_33() -> &'static [u8] {
       if (run.names.has(number)) add(\"Block \" + number, run.names.get(number));
       places.push([\"Block \" + number, block.slice(0, 3)], [\"\", block.slice(3)]);
     }
+    if (run.untried) add(\"Known\", this.knownValue(run.untried.known.at(k)));
     add(\"Next\", next ? \"line \" + next.line + \" \" + (run.code[next.statement] ? run.code[next.statement].word : \"\") : \"nothing: the run has stopped\");
     $(\"probe\").replaceChildren(...entries);
     this.showPlaces(places);
   }
+  // What is known of the machine, and what isn't.
+  knownValue(known) {
+    const value = element(\"dd\"), lost = knownThings.filter((_, i) => !known[i]).map((it) => it.toLowerCase());
+    value.append(knownThings.filter((_, i) => known[i]).join(\", \").toLowerCase() || \"nothing\");
+    if (lost.length) value.append(element(\"span\", \"not known: \" + lost.join(\", \"), \"lost\"));
+    return value;
+  }
   // Points as rows of three numbers, below each other. Where numbers are wide the name stands above them, and where they are very wide each has a line of its own.
   showPlaces(places) {
     let longest = 0;
-    const rows = places.map(([name, at, className]) => {
+"
+}
+
+/// Part 36 of the script.
+pub(crate) fn script_36() -> &'static [u8] {
+    b"    const rows = places.map(([name, at, className]) => {
       const row = element(\"tr\", undefined, className);
       row.append(rowHead(name), ...at.map((x, i) => {
         const it = cell(typeof x === \"string\" ? x : millimetres(x), \"n\");
@@ -1527,12 +1617,7 @@ pub(crate) fn script_33() -> &'static [u8] {
     setClass($(\"places\"), longest > 12 ? \"tall\" : longest > 8 ? \"wide\" : \"\");
   }
   variableRow(name) {
-"
-}
-
-/// Part 34 of the script.
-pub(crate) fn script_34() -> &'static [u8] {
-    b"    const row = element(\"tr\"), value = cell(\"\", \"n mono\"), set = cell(\"\", \"n\");
+    const row = element(\"tr\"), value = cell(\"\", \"n mono\"), set = cell(\"\", \"n\");
     row.append(rowHead(name), value, set);
     return row;
   }
@@ -1559,7 +1644,12 @@ pub(crate) fn script_34() -> &'static [u8] {
     return row;
   }
   showPoints(k) {
-    const { run } = this, touched = run.touchSteps.count(k), keys = [];
+"
+}
+
+/// Part 37 of the script.
+pub(crate) fn script_37() -> &'static [u8] {
+    b"    const { run } = this, touched = run.touchSteps.count(k), keys = [];
     for (let i = touched - 1; i >= 0 && keys.length < MOST_POINTS; i--) keys.push(i);
     this.points.show(keys).forEach((row, i) => setClass(row, run.touches[keys[i]].step === k ? \"changed\" : \"\"));
     if ($(\"points\").hidden !== (keys.length === 0)) $(\"points\").hidden = keys.length === 0;
@@ -1568,12 +1658,7 @@ pub(crate) fn script_34() -> &'static [u8] {
   boxRow(name, text, contact) {
     const row = element(\"tr\"), step = cell(\"\", \"n\");
     if (contact && contact.step > 0) step.append(this.jump(contact.step));
-"
-}
-
-/// Part 35 of the script.
-pub(crate) fn script_35() -> &'static [u8] {
-    b"    row.append(rowHead(name), cell(text, contact ? \"bad\" : \"\"), step);
+    row.append(rowHead(name), cell(text, contact ? \"bad\" : \"\"), step);
     return { row, contact };
   }
   outputRow(i) {
@@ -1604,7 +1689,12 @@ class Stage {
     this.isWaiting = false;
     this.later = 0;
     this.flat = [\"top\", \"front\", \"side\"].map((key) => new Sheet(run, this.canvasOf(key), key, this.camera));
-    this.profile = new Profile(run, $(\"profile\"));
+"
+}
+
+/// Part 38 of the script.
+pub(crate) fn script_38() -> &'static [u8] {
+    b"    this.profile = new Profile(run, $(\"profile\"));
     this.solid = null;
     try {
       const solid = new Solid(run, document.querySelector(\"canvas.gl\"), document.querySelector(\"canvas.over\"), this.camera);
@@ -1614,12 +1704,7 @@ class Stage {
     const whole = boxOf(pointsOfWhole(run));
     this.boxes = { all: whole, part: run.blocks.length ? boxOf(pointsOfPart(run)) : whole };
     this.makeLegend();
-"
-}
-
-/// Part 36 of the script.
-pub(crate) fn script_36() -> &'static [u8] {
-    b"    for (const sheet of [...this.flat, ...(this.solid ? [this.solid] : [])]) this.listenTo(sheet);
+    for (const sheet of [...this.flat, ...(this.solid ? [this.solid] : [])]) this.listenTo(sheet);
     for (const it of document.getElementsByName(\"view\")) it.onchange = () => this.setView(it.value);
     for (const it of document.getElementsByName(\"fit\")) it.onchange = () => this.fit(it.value);
     for (const it of document.querySelectorAll(\"[data-turn]\")) it.onclick = () => {
@@ -1636,7 +1721,7 @@ pub(crate) fn script_36() -> &'static [u8] {
   }
   makeLegend() {
     const { run } = this, legend = $(\"legend\"), kinds = new Set(run.kinds);
-    for (const kind of \"masrx\") if (kinds.has(kind)) legend.append(element(\"span\", kindNames[kind], \"key \" + kind), \" \");
+    for (const kind of \"measrx\") if (kinds.has(kind)) legend.append(element(\"span\", kindNames[kind], \"key \" + kind), \" \");
     if (run.touches.length) legend.append(element(\"span\", \"touched\", \"key dot\"), \" \");
     legend.append(element(\"span\", \"probe\", \"key ring\"));
   }
@@ -1646,7 +1731,12 @@ pub(crate) fn script_36() -> &'static [u8] {
   setView(view) {
     $(\"views\").dataset.view = view;
     for (const it of document.getElementsByName(\"view\")) it.checked = it.value === view;
-    this.fitNow();
+"
+}
+
+/// Part 39 of the script.
+pub(crate) fn script_39() -> &'static [u8] {
+    b"    this.fitNow();
     this.draw();
   }
   fit(what) {
@@ -1663,12 +1753,7 @@ pub(crate) fn script_36() -> &'static [u8] {
       box = { low: this.probe.map((x) => x - reach), high: this.probe.map((x) => x + reach) };
     }
     camera.centre = box.low.map((x, k) => (x + box.high[k]) / 2);
-"
-}
-
-/// Part 37 of the script.
-pub(crate) fn script_37() -> &'static [u8] {
-    b"    const size = box.high.map((x, k) => Math.max(x - box.low[k], 2000));
+    const size = box.high.map((x, k) => Math.max(x - box.low[k], 2000));
     let scale = Infinity;
     for (const sheet of this.flat) {
       const w = sheet.canvas.clientWidth, h = sheet.canvas.clientHeight;
@@ -1703,7 +1788,12 @@ pub(crate) fn script_37() -> &'static [u8] {
 
   // ---- drawing
 
-  show(k, probe) {
+"
+}
+
+/// Part 40 of the script.
+pub(crate) fn script_40() -> &'static [u8] {
+    b"  show(k, probe) {
     this.step = k;
     this.probe = probe;
     if (this.fitting === \"probe\") this.fitNow(); else this.draw();
@@ -1723,12 +1813,7 @@ pub(crate) fn script_37() -> &'static [u8] {
   drawNow(ratio) {
     for (const sheet of this.flat) if (sheet.size(ratio)) sheet.draw(this.colours, this.step, this.probe);
     if (this.solid) this.drawSolid(ratio);
-"
-}
-
-/// Part 38 of the script.
-pub(crate) fn script_38() -> &'static [u8] {
-    b"    this.profile.draw(this.colours, this.step, ratio);
+    this.profile.draw(this.colours, this.step, ratio);
   }
   // Where a frame in space takes long, it is drawn once nothing has changed for a while.
   drawSolid(ratio) {
@@ -1760,7 +1845,12 @@ pub(crate) fn script_38() -> &'static [u8] {
   }
   point(sheet, canvas, event) {
     const box = canvas.getBoundingClientRect(), found = sheet.find(event.clientX - box.left, event.clientY - box.top), tip = $(\"tip\");
-    canvas.classList.toggle(\"found\", !!(found && found.piece !== undefined));
+"
+}
+
+/// Part 41 of the script.
+pub(crate) fn script_41() -> &'static [u8] {
+    b"    canvas.classList.toggle(\"found\", !!(found && found.piece !== undefined));
     tip.hidden = !found;
     if (!found) return;
     const own = $(\"views\").getBoundingClientRect();
@@ -1773,12 +1863,7 @@ pub(crate) fn script_38() -> &'static [u8] {
       this.camera.centre[sheet.sheet.right] -= dx / this.camera.scale;
       this.camera.centre[sheet.sheet.up] += dy / this.camera.scale;
       this.loose();
-"
-}
-
-/// Part 39 of the script.
-pub(crate) fn script_39() -> &'static [u8] {
-    b"    } else this.solid.turn(-dx * 0.01, dy * 0.008);
+    } else this.solid.turn(-dx * 0.01, dy * 0.008);
     this.draw();
   }
   listenTo(sheet) {
@@ -1806,7 +1891,12 @@ pub(crate) fn script_39() -> &'static [u8] {
     const end = (event) => { pointers.delete(event.pointerId); };
     canvas.addEventListener(\"pointerup\", (event) => {
       if (pointers.size === 1 && travelled < 5) {
-        const box = canvas.getBoundingClientRect(), found = sheet.find(event.clientX - box.left, event.clientY - box.top);
+"
+}
+
+/// Part 42 of the script.
+pub(crate) fn script_42() -> &'static [u8] {
+    b"        const box = canvas.getBoundingClientRect(), found = sheet.find(event.clientX - box.left, event.clientY - box.top);
         if (found && found.piece !== undefined) this.whenStepped(this.run.pieceStep[found.piece]);
       }
       end(event);
@@ -1821,18 +1911,14 @@ pub(crate) fn script_39() -> &'static [u8] {
   }
 }
 
-"
-}
-
-/// Part 40 of the script.
-pub(crate) fn script_40() -> &'static [u8] {
-    b"// The page: from step to step by keys, buttons, lines and playing. Texts of the run go into the page as text alone.
+// The page: from step to step by keys, buttons, lines and playing. Texts of the run go into the page as text alone.
 
 (() => {
   let run;
   try {
     run = readRun($(\"run\").textContent);
     if ($(\"block-names\")) readNames(run, $(\"block-names\").textContent);
+    if ($(\"untried\")) readUntried(run, $(\"untried\").textContent);
     if ($(\"probe-boxes\")) readBoxes(run, $(\"probe-boxes\").textContent);
   } catch (fault) {
     $(\"fault\").hidden = false;
@@ -1847,13 +1933,20 @@ pub(crate) fn script_40() -> &'static [u8] {
 
   // ---- the head
 
-  const told = verdictOf(run);
+  const told = verdictWithUntried(run);
   $(\"title\").textContent = run.title;
   document.title = run.title + \" \\u2013 \" + told.text;
   $(\"verdict\").className = \"verdict \" + told.kind;
-  $(\"verdict\").append(element(\"span\", { ok: \"\\u2713\", bad: \"\\u2715\", warn: \"\\u2026\" }[told.kind], \"sign\"), \" \" + told.text);
+  $(\"verdict\").append(element(\"span\", told.sign || { ok: \"\\u2713\", bad: \"\\u2715\", warn: \"\\u2026\" }[told.kind], \"sign\"), \" \" + told.text);
   $(\"verdict\").title = run.stop ? run.stop.text : told.line;
   $(\"facts\").textContent = factsOf(run);
+  $(\"not-tried\").hidden = !isPartly(run);
+"
+}
+
+/// Part 43 of the script.
+pub(crate) fn script_43() -> &'static [u8] {
+    b"  if (isPartly(run)) $(\"not-tried\").replaceChildren(...run.untried.told.map((it) => element(\"li\", it)));
 
   const listing = isFramed ? null : new Listing(run, $(\"program\"));
   const panel = new Panel(run);
@@ -1870,16 +1963,11 @@ pub(crate) fn script_40() -> &'static [u8] {
   document.documentElement.dataset.first = first;
 
   function goTo(k, speaks = true) {
-"
-}
-
-/// Part 41 of the script.
-pub(crate) fn script_41() -> &'static [u8] {
-    b"    k = Math.max(0, Math.min(run.length, Math.round(k) || 0));
+    k = Math.max(0, Math.min(run.length, Math.round(k) || 0));
     now = k;
     const probe = shownAt(run, k), slider = $(\"slider\");
     slider.value = k;
-    slider.setAttribute(\"aria-valuetext\", k ? `step ${k + run.from}, line ${run.line[k]}, ${run.code[run.statement[k]].word} ${doneText(run, k)}` : \"the start\");
+    slider.setAttribute(\"aria-valuetext\", k ? `step ${k + run.from}, line ${run.line[k]}, ${wordAt(run, k)} ${doneText(run, k)}` : \"the start\");
     $(\"number\").value = k + run.from;
     document.documentElement.dataset.line = k ? rowAt(run, k) : 0;
     document.documentElement.dataset.step = k;
@@ -1894,7 +1982,12 @@ pub(crate) fn script_41() -> &'static [u8] {
     stage.show(k, probe);
   }
   function showHere(k, probe) {
-    const count = (n) => n.toLocaleString(\"en\"), where = element(\"b\", k ? `Step ${count(k + run.from)} of ${count(run.length + run.from)}` : \"Start\", metIn(run, k).length ? \"bad\" : \"\");
+"
+}
+
+/// Part 44 of the script.
+pub(crate) fn script_44() -> &'static [u8] {
+    b"    const count = (n) => n.toLocaleString(\"en\"), where = element(\"b\", k ? `Step ${count(k + run.from)} of ${count(run.length + run.from)}` : \"Start\", metIn(run, k).length ? \"bad\" : \"\");
     $(\"here\").replaceChildren(where, ` \\u00b7 ${tipText(run)} \\u00b7 line ${k ? run.line[k] : \"\\u2013\"}`, element(\"br\"), element(\"span\", probe.map(millimetres).join(\"  \"), \"mono\"));
   }
 
@@ -1911,12 +2004,7 @@ pub(crate) fn script_41() -> &'static [u8] {
     $(\"play\").setAttribute(\"aria-label\", on ? \"Stop playing\" : \"Play\");
     if (!on) {
       stage.show(now, shownAt(run, now));
-"
-}
-
-/// Part 42 of the script.
-pub(crate) fn script_42() -> &'static [u8] {
-    b"      return;
+      return;
     }
     if (now === run.length) goTo(0);
     began = performance.now();
@@ -1930,7 +2018,7 @@ pub(crate) fn script_42() -> &'static [u8] {
     return places;
   }
   function time(k) {
-    return Math.max(140, Math.min(1600, (2200 * wayOf(k).reduce((sum, it) => sum + long(it), 0)) / whole)) / Number($(\"speed\").value);
+    return Math.max(run.untried && !isEvent(run, k) ? 20 : 140, Math.min(1600, (2200 * wayOf(k).reduce((sum, it) => sum + long(it), 0)) / whole)) / Number($(\"speed\").value);
   }
   function frame(t) {
     if (!playing) return;
@@ -1944,7 +2032,12 @@ pub(crate) fn script_42() -> &'static [u8] {
     }
     if (moved) goTo(now, false);
     if (now >= run.length) {
-      play(false);
+"
+}
+
+/// Part 45 of the script.
+pub(crate) fn script_45() -> &'static [u8] {
+    b"      play(false);
       return;
     }
     if (!calm.matches) glide(wayOf(now + 1), Math.min(1, (t - began) / time(now + 1)));
@@ -1975,12 +2068,7 @@ pub(crate) fn script_42() -> &'static [u8] {
   function toSame(by, line = rowAt(run, now)) {
     const list = run.counts.get(line);
     if (!list) return;
-"
-}
-
-/// Part 43 of the script.
-pub(crate) fn script_43() -> &'static [u8] {
-    b"    const k = by > 0 ? list.find((it) => it > now) : list.filter((it) => it < now).pop();
+    const k = by > 0 ? list.find((it) => it > now) : list.filter((it) => it < now).pop();
     stepTo(k !== undefined ? k : by > 0 ? list[0] : list[list.length - 1]);
   }
 
@@ -2001,7 +2089,12 @@ pub(crate) fn script_43() -> &'static [u8] {
   });
   $(\"profile\").addEventListener(\"pointerdown\", (event) => {
     const to = (e) => {
-      const box = $(\"profile\").getBoundingClientRect();
+"
+}
+
+/// Part 46 of the script.
+pub(crate) fn script_46() -> &'static [u8] {
+    b"      const box = $(\"profile\").getBoundingClientRect();
       stepTo(((e.clientX - box.left - 8) / (box.width - 16)) * run.length);
     };
     to(event);
@@ -2018,12 +2111,7 @@ pub(crate) fn script_43() -> &'static [u8] {
   };
   $(\"state-open\").onclick = () => document.querySelector(`.tabs [data-panel=\"${document.body.dataset.panel === \"state\" ? \"program\" : \"state\"}\"]`).click();
   let stateWasShown = isStateShown();
-"
-}
-
-/// Part 44 of the script.
-pub(crate) fn script_44() -> &'static [u8] {
-    b"  new ResizeObserver(() => {
+  new ResizeObserver(() => {
     if (isStateShown() && !stateWasShown) panel.show(now);
     stateWasShown = isStateShown();
   }).observe($(\"state\"));
@@ -2044,7 +2132,12 @@ pub(crate) fn script_44() -> &'static [u8] {
     if (tag === \"SELECT\" || (tag === \"INPUT\" && (on.type === \"number\" || on.type === \"search\"))) return;
     const radio = tag === \"INPUT\" && on.type === \"radio\";
     let used = true;
-    if (event.key === \"ArrowLeft\" && !radio) event.shiftKey ? toEvent(-1) : stepTo(now - 1);
+"
+}
+
+/// Part 47 of the script.
+pub(crate) fn script_47() -> &'static [u8] {
+    b"    if (event.key === \"ArrowLeft\" && !radio) event.shiftKey ? toEvent(-1) : stepTo(now - 1);
     else if (event.key === \"ArrowRight\" && !radio) event.shiftKey ? toEvent(1) : stepTo(now + 1);
     else if (event.key === \"Home\") stepTo(0);
     else if (event.key === \"End\") stepTo(run.length);
@@ -2067,12 +2160,7 @@ pub(crate) fn script_44() -> &'static [u8] {
   });
   const narrow = matchMedia(\"(max-width: 900px)\");
   if (narrow.matches || isFramed) stage.setView(stage.solid ? \"solid\" : \"top\");
-"
-}
-
-/// Part 45 of the script.
-pub(crate) fn script_45() -> &'static [u8] {
-    b"  const asked = () => /^#step=(\\d+)$/.exec(location.hash);
+  const asked = () => /^#step=(\\d+)$/.exec(location.hash);
   addEventListener(\"hashchange\", () => { if (asked()) stepTo(Number(asked()[1]) - run.from); });
   goTo(asked() ? Number(asked()[1]) - run.from : first, false);
   stage.fitNow();

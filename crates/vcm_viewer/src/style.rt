@@ -9,7 +9,7 @@ pub(crate) fn style_1() -> &'static [u8] {
   --accent: #0b5fa5; --ok: #146c43; --ok-soft: #e2f3ea; --danger: #b3261e; --danger-soft: #fce8e6; --warn: #7a5200; --warn-soft: #fdf1d8;
   --now: #fff2c2; --now-edge: #d99e00; --string: #7a3e00;
   --block: #cfd4da; --block-high: #e9ecef; --block-line: #7d8690; --hit: #f7cdc9; --hit-line: #b3261e;
-  --m: #0072b2; --a: #00805c; --s: #d55e00; --r: #b0509a; --x: #30343a; --probe: #111111;
+  --m: #0072b2; --a: #00805c; --s: #d55e00; --r: #b0509a; --x: #30343a; --e: #8a5a00; --probe: #111111;
 }
 @media (prefers-color-scheme: dark) {
   :root:not(.paper) {
@@ -17,7 +17,7 @@ pub(crate) fn style_1() -> &'static [u8] {
     --accent: #7dbdf5; --ok: #74d6a0; --ok-soft: #17301f; --danger: #ff8f86; --danger-soft: #3b1a18; --warn: #f0bf63; --warn-soft: #362a12;
     --now: #453a10; --now-edge: #e0b020; --string: #e6b684;
     --block: #363d45; --block-high: #4b545e; --block-line: #98a2ad; --hit: #6b2b27; --hit-line: #ff8f86;
-    --m: #58b4ef; --a: #35c79a; --s: #ff9040; --r: #e79acb; --x: #d7d9dc; --probe: #ffffff;
+    --m: #58b4ef; --a: #35c79a; --s: #ff9040; --r: #e79acb; --x: #d7d9dc; --e: #f0bf63; --probe: #ffffff;
   }
 }
 * { box-sizing: border-box; }
@@ -30,13 +30,14 @@ button, input, select { font: inherit; color: inherit; }
 .unseen { position: absolute; width: 1px; height: 1px; overflow: hidden; clip-path: inset(50%); }
 .mono, code, .n, .number, .times { font-family: ui-monospace, \"SF Mono\", \"Cascadia Mono\", \"DejaVu Sans Mono\", monospace; font-variant-numeric: tabular-nums; }
 .note { padding: 10px 16px; background: var(--warn-soft); color: var(--warn); }
-
 "
 }
 
 /// Part 2 of the style.
 pub(crate) fn style_2() -> &'static [u8] {
-    b"header { grid-row: 1; display: flex; align-items: center; gap: 6px 16px; flex-wrap: wrap; padding: 8px 16px; border-bottom: 1px solid var(--line); background: var(--panel); } h1 { min-width: 0; max-width: 100%; overflow: hidden; text-overflow: ellipsis; white-space: nowrap; } header #keys-open { margin-left: auto; }
+    b"#not-tried { grid-row: 2; padding: 5px 16px; list-style: none; max-height: 6.4em; overflow: auto; font-size: 13px; overflow-wrap: anywhere; }
+
+header { grid-row: 1; display: flex; align-items: center; gap: 6px 16px; flex-wrap: wrap; padding: 8px 16px; border-bottom: 1px solid var(--line); background: var(--panel); } h1 { min-width: 0; max-width: 100%; overflow: hidden; text-overflow: ellipsis; white-space: nowrap; } header #keys-open { margin-left: auto; }
 h1 { font-size: 17px; font-weight: 650; letter-spacing: -0.01em; }
 .verdict { padding: 2px 10px 2px 8px; border-radius: 6px; font-weight: 600; }
 .verdict.ok { color: var(--ok); background: var(--ok-soft); } .verdict.bad { color: var(--danger); background: var(--danger-soft); } .verdict.warn { color: var(--warn); background: var(--warn-soft); }
@@ -63,7 +64,7 @@ pub(crate) fn style_3() -> &'static [u8] {
 .line.idle { border-left-color: var(--line); }
 .line:hover { background: var(--soft); }
 .number { color: var(--muted); text-align: right; padding-right: 6px; font-size: 11.5px; user-select: none; }
-.line .sign { font-size: 10px; text-align: center; user-select: none; } .sign.stop { color: var(--danger); font-weight: 700; } .sign.touch { color: var(--s); } .sign.notice { color: var(--warn); font-weight: 700; }
+.line .sign { font-size: 10px; text-align: center; user-select: none; } .sign.stop { color: var(--danger); font-weight: 700; } .sign.touch { color: var(--s); } .sign.notice, .sign.untried { color: var(--warn); font-weight: 700; } .line.untried { border-left-color: var(--warn); } .line.untried:not(.now) { background: var(--warn-soft); }
 .line code i { color: var(--muted); } .line code q { color: var(--string); quotes: none; }
 .line.idle code { color: var(--muted); }
 .times { color: var(--muted); font-size: 11px; padding-left: 10px; user-select: none; }
@@ -79,13 +80,13 @@ pub(crate) fn style_3() -> &'static [u8] {
 .choice input { position: absolute; inset: 0; opacity: 0; margin: 0; cursor: pointer; }
 .choice span { display: block; padding: 3px 11px; font-size: 13px; color: var(--muted); }
 .choice label + label span { border-left: 1px solid var(--line); }
-.choice input:checked + span { background: var(--accent); color: var(--panel); font-weight: 600; }
 "
 }
 
 /// Part 4 of the style.
 pub(crate) fn style_4() -> &'static [u8] {
-    b".choice input:focus-visible + span { outline: 2px solid var(--accent); outline-offset: -4px; } .choice input:checked:focus-visible + span { outline-color: var(--panel); }
+    b".choice input:checked + span { background: var(--accent); color: var(--panel); font-weight: 600; }
+.choice input:focus-visible + span { outline: 2px solid var(--accent); outline-offset: -4px; } .choice input:checked:focus-visible + span { outline-color: var(--panel); }
 .sheets { display: grid; grid-template-columns: 1fr 1fr; grid-template-rows: 1fr 1fr; gap: 1px; background: var(--line); border-block: 1px solid var(--line); min-height: 0; }
 figure { position: relative; background: var(--paper); min-width: 0; min-height: 0; overflow: hidden; }
 figure canvas { position: absolute; inset: 0; width: 100%; height: 100%; touch-action: none; cursor: grab; } figure canvas:active { cursor: grabbing; } figure canvas.found { cursor: pointer; }
@@ -105,20 +106,20 @@ pub(crate) fn style_5() -> &'static [u8] {
 #views[data-view=\"top\"] [data-sheet=\"top\"], #views[data-view=\"front\"] [data-sheet=\"front\"], #views[data-view=\"side\"] [data-sheet=\"side\"], #views[data-view=\"solid\"] [data-sheet=\"solid\"] { display: block; }
 .legend { display: flex; flex-wrap: wrap; gap: 2px 13px; padding: 5px 12px; color: var(--muted); font-size: 12px; }
 .key::before { content: \"\"; display: inline-block; width: 18px; vertical-align: middle; margin-right: 5px; border-top: 2px solid; }
-.key.m::before { border-color: var(--m); } .key.a::before { border-color: var(--a); border-top-style: dashed; } .key.s::before { border-color: var(--s); border-top-width: 3px; } .key.r::before { border-color: var(--r); border-top-style: dotted; } .key.x::before { border-color: var(--x); border-top-style: dashed; border-top-width: 1px; }
+.key.m::before { border-color: var(--m); } .key.a::before { border-color: var(--a); border-top-style: dashed; } .key.s::before { border-color: var(--s); border-top-width: 3px; } .key.r::before { border-color: var(--r); border-top-style: dotted; } .key.x::before { border-color: var(--x); border-top-style: dashed; border-top-width: 1px; } .key.e::before { border-color: var(--e); border-top-style: dashed; }
 .key.dot::before { width: 8px; height: 8px; border: 0; border-radius: 50%; background: var(--s); } .key.ring::before { width: 9px; height: 9px; border: 2px solid var(--probe); border-radius: 50%; }
 .tip { position: absolute; z-index: 5; max-width: 420px; padding: 3px 8px; border-radius: 5px; background: var(--ink); color: var(--paper); font-size: 12px; pointer-events: none; }
 
 #state section { padding: 10px 0 11px; border-bottom: 1px solid var(--line); } #state section:last-child { border-bottom: 0; }
 #state h2 { font-size: 12px; font-weight: 600; color: var(--muted); margin-bottom: 4px; } .count { font-weight: 400; }
 #state .step h2 { font-size: 14px; color: var(--ink); }
-.step .done { overflow-wrap: anywhere; min-height: 2.9em; } .done.bad { color: var(--danger); font-weight: 600; } .done.ok { color: var(--ok); }
 "
 }
 
 /// Part 6 of the style.
 pub(crate) fn style_6() -> &'static [u8] {
-    b".raw { font: 12px ui-monospace, \"DejaVu Sans Mono\", monospace; color: var(--muted); overflow-wrap: anywhere; } dd.bad, td.bad { color: var(--danger); font-weight: 600; }
+    b".step .done { overflow-wrap: anywhere; min-height: 2.9em; } .done.bad { color: var(--danger); font-weight: 600; } .done.ok { color: var(--ok); } .done.warn { color: var(--warn); font-weight: 600; } .lost { display: block; color: var(--warn); font-weight: 600; }
+.raw { font: 12px ui-monospace, \"DejaVu Sans Mono\", monospace; color: var(--muted); overflow-wrap: anywhere; } dd.bad, td.bad { color: var(--danger); font-weight: 600; }
 .rows { display: grid; grid-template-columns: auto 1fr; gap: 2px 14px; } .rows dt { color: var(--muted); } .rows dd { margin: 0; overflow-wrap: anywhere; } .rows .mono { font-size: 12px; white-space: pre; }
 #places { font-size: 12px; margin-bottom: 4px; } #places th { color: var(--muted); font-family: inherit; font-size: 13px; } #places :is(th, td).n { padding-left: 6px; } #places td { overflow-wrap: anywhere; } #places .bad { color: var(--danger); font-weight: 600; }
 #places:is(.wide, .tall) thead { display: none; } #places:is(.wide, .tall) tr { display: grid; grid-template-columns: repeat(3, 1fr); } #places:is(.wide, .tall) th { grid-column: 1 / -1; padding-bottom: 0; } #places:is(.wide, .tall) td { padding-top: 0; }
@@ -128,14 +129,14 @@ pub(crate) fn style_6() -> &'static [u8] {
 }
 .rows small { color: var(--muted); }
 table { border-collapse: collapse; width: 100%; font-size: 13px; } th, td { text-align: left; padding: 2px 8px 2px 0; font-weight: 400; } thead th, thead th.n { color: var(--muted); font-size: 11.5px; font-family: inherit; } th.n, td.n { text-align: right; padding-right: 0; padding-left: 8px; }
-tbody th { font-family: ui-monospace, \"DejaVu Sans Mono\", monospace; } #points { font-size: 11.5px; } #points th, #points td { padding-left: 0; padding-right: 4px; } #points td:last-child, #points th:last-child { padding-right: 0; }
-.changed th, .changed td, dd.changed, li.changed { background: var(--now); } .quietly { color: var(--muted); }
 "
 }
 
 /// Part 7 of the style.
 pub(crate) fn style_7() -> &'static [u8] {
-    b".jump { border: 0; background: none; padding: 0 2px; min-height: 0; color: var(--accent); text-decoration: underline; text-decoration-color: color-mix(in srgb, var(--accent) 40%, transparent); text-underline-offset: 2px; text-align: left; overflow-wrap: anywhere; } td .jump { white-space: nowrap; }
+    b"tbody th { font-family: ui-monospace, \"DejaVu Sans Mono\", monospace; } #points { font-size: 11.5px; } #points th, #points td { padding-left: 0; padding-right: 4px; } #points td:last-child, #points th:last-child { padding-right: 0; }
+.changed th, .changed td, dd.changed, li.changed { background: var(--now); } .quietly { color: var(--muted); }
+.jump { border: 0; background: none; padding: 0 2px; min-height: 0; color: var(--accent); text-decoration: underline; text-decoration-color: color-mix(in srgb, var(--accent) 40%, transparent); text-underline-offset: 2px; text-align: left; overflow-wrap: anywhere; } td .jump { white-space: nowrap; }
 #output { list-style: none; font-size: 12px; } #output li { display: grid; grid-template-columns: 1.8em 1fr; padding: 1px 0; } #output .jump { color: var(--ink); text-decoration: none; font-family: ui-monospace, \"DejaVu Sans Mono\", monospace; } #output .jump:hover { text-decoration: underline; }
 #notices { padding-left: 1.1em; }
 #variables-filter { width: 100%; margin: 2px 0 6px; padding: 4px 8px; border: 1px solid var(--line); border-radius: 6px; background: var(--paper); }
@@ -144,13 +145,13 @@ footer { grid-row: 4; display: grid; grid-template-columns: auto 1fr auto; gap: 
 .buttons { display: flex; flex-wrap: wrap; align-items: center; gap: 4px; } .buttons button { min-width: 38px; min-height: 34px; padding: 0 6px; font-size: 12px; letter-spacing: -1px; } #play { min-width: 50px; background: var(--accent); border-color: var(--accent); color: var(--panel); }
 .speed { margin-left: 8px; color: var(--muted); } select, input[type=\"number\"] { border: 1px solid var(--line); border-radius: 6px; background: var(--paper); padding: 3px 6px; }
 .time { position: relative; } #profile { display: block; width: 100%; height: 42px; cursor: pointer; touch-action: none; } #slider { display: block; width: 100%; margin: 0; height: 18px; accent-color: var(--accent); }
-.where { white-space: nowrap; color: var(--muted); } input[type=\"number\"] { width: 5.6em; text-align: right; color: var(--ink); }
 "
 }
 
 /// Part 8 of the style.
 pub(crate) fn style_8() -> &'static [u8] {
-    b"dialog { border: 1px solid var(--line); border-radius: 12px; background: var(--panel); color: var(--ink); max-width: 520px; padding: 20px 24px; } dialog::backdrop { background: rgb(0 0 0 / 0.4); } dialog h2 { font-size: 17px; margin-bottom: 8px; } dialog p { margin: 10px 0; } dialog form { text-align: right; } dialog td:first-child { white-space: nowrap; }
+    b".where { white-space: nowrap; color: var(--muted); } input[type=\"number\"] { width: 5.6em; text-align: right; color: var(--ink); }
+dialog { border: 1px solid var(--line); border-radius: 12px; background: var(--panel); color: var(--ink); max-width: 520px; padding: 20px 24px; } dialog::backdrop { background: rgb(0 0 0 / 0.4); } dialog h2 { font-size: 17px; margin-bottom: 8px; } dialog p { margin: 10px 0; } dialog form { text-align: right; } dialog td:first-child { white-space: nowrap; }
 kbd { display: inline-block; min-width: 22px; padding: 0 5px; text-align: center; border: 1px solid var(--line); border-bottom-width: 2px; border-radius: 5px; font: inherit; font-size: 12px; background: var(--paper); }
 
 @media (max-width: 1150px) and (min-width: 901px) { main { grid-template-columns: minmax(240px, 25%) minmax(0, 1fr) 300px; } }

@@ -23,13 +23,13 @@ use Rattle.vcm_clearance.proofs.Sizes.{box_at}
 use Rattle.vcm_views.specs.Views.{clearance_status, clearance_view, IsClearanceOf}
 use Rattle.vcm_views.specs.inner.Cuts.{cut_short}
 
-module _ (names : List (List ℕ)) (boxes : List ProbeBox) (program : Option (List ℕ)) (notices : List Noticed) (w part : Workpiece) (same : w ≡ part) (c : Code) (n : ℕ) (old new : Option (List ℕ)) where
-  pub clearance_viewed : (status : ℕ) (told : Cleared) → IsClearance names w boxes c n told old new → status ≡ clearance_status told.is_met told.stop
-      → IsViewed (clearance_view names boxes) program notices part c n status old new
+module _ (names : List (List ℕ)) (untried : List ℕ) (boxes : List ProbeBox) (program : Option (List ℕ)) (notices : List Noticed) (w part : Workpiece) (same : w ≡ part) (c : Code) (n : ℕ) (old new : Option (List ℕ)) where
+  pub clearance_viewed : (status : ℕ) (told : Cleared) → IsClearance names untried w boxes c n told old new → status ≡ clearance_status told.is_met told.stop
+      → IsViewed (clearance_view names untried boxes) program notices part c n status old new
   clearance_viewed status told t s =
-      subst (λ p. IsViewed (clearance_view names boxes) program notices p c n status old new) same
+      subst (λ p. IsViewed (clearance_view names untried boxes) program notices p c n status old new) same
       (record {
-        text = clearance_text names w boxes c n t.rooms;
+        text = clearance_text names untried w boxes c n t.rooms;
         tells = record {
           rooms = t.rooms;
           are_rooms = t.are_rooms;
@@ -39,18 +39,18 @@ module _ (names : List (List ℕ)) (boxes : List ProbeBox) (program : Option (Li
         written = t.written;
       })
 
-  clearance_cut : (f : Unfinished) → IsNotCleared names w boxes c n f old new → IsCutShort (clearance_view names boxes) program notices w c n (cut_short f) old new
+  clearance_cut : (f : Unfinished) → IsNotCleared names untried w boxes c n f old new → IsCutShort (clearance_view names untried boxes) program notices w c n (cut_short f) old new
   clearance_cut faults.NoMemory t = t
   clearance_cut (faults.Memory done) t = (t.halted, t.written)
   clearance_cut (faults.Write done) t = record {
-    text = clearance_text names w boxes c n t.rooms;
+    text = clearance_text names untried w boxes c n t.rooms;
     status = clearance_status (list_any is_met_room t.rooms) (state_after w c n).world.stop;
     tells = record { rooms = t.rooms; are_rooms = t.are_rooms; text_is = refl; status_is = refl };
     front = t.front;
   }
 
-  pub clearance_cut_short : (f : Unfinished) → IsNotCleared names w boxes c n f old new → IsCutShort (clearance_view names boxes) program notices part c n (cut_short f) old new
-  clearance_cut_short f t = subst (λ p. IsCutShort (clearance_view names boxes) program notices p c n (cut_short f) old new) same (clearance_cut f t)
+  pub clearance_cut_short : (f : Unfinished) → IsNotCleared names untried w boxes c n f old new → IsCutShort (clearance_view names untried boxes) program notices part c n (cut_short f) old new
+  clearance_cut_short f t = subst (λ p. IsCutShort (clearance_view names untried boxes) program notices p c n (cut_short f) old new) same (clearance_cut f t)
 
 -- ---- boxes have one list of rooms
 
@@ -70,10 +70,10 @@ module _ (blocks : List Block3) (all : list_all is_block blocks ≡ true) (ways 
       behind : (b : ProbeBox) (r : Room) (bs : List ProbeBox) (rs : List Room) → AreRooms blocks (b ∷ bs) ways (r ∷ rs) → AreRooms blocks bs ways rs
       behind b r bs rs h = record { count = (let same = h.count in omega (arith, same)); each = λ i c q at is. h.each (suc i) c q at is }
 
-pub same_clearance : (names : List (List ℕ)) (part : Workpiece) (boxes : List ProbeBox) (c : Code) (n : ℕ) → IsValid part → AreBoxes boxes → (text other : List ℕ) (status more : ℕ)
-    → IsClearanceOf names part boxes c n text status → IsClearanceOf names part boxes c n other more → (text ≡ other) × (status ≡ more)
-same_clearance names part boxes c n valid are text other status more h k =
+pub same_clearance : (names : List (List ℕ)) (untried : List ℕ) (part : Workpiece) (boxes : List ProbeBox) (c : Code) (n : ℕ) → IsValid part → AreBoxes boxes → (text other : List ℕ) (status more : ℕ)
+    → IsClearanceOf names untried part boxes c n text status → IsClearanceOf names untried part boxes c n other more → (text ≡ other) × (status ≡ more)
+same_clearance names untried part boxes c n valid are text other status more h k =
     let same : h.rooms ≡ k.rooms = same_rooms part.blocks valid.each (ways_of part c n) boxes h.rooms k.rooms (box_at boxes are) h.are_rooms k.are_rooms in (
-      h.text_is ∙ ap (clearance_text names part boxes c n) same ∙ sym k.text_is,
+      h.text_is ∙ ap (clearance_text names untried part boxes c n) same ∙ sym k.text_is,
       h.status_is ∙ ap (λ rooms. clearance_status (list_any is_met_room rooms) (state_after part c n).world.stop) same ∙ sym k.status_is,
     )

@@ -41,6 +41,7 @@ use Rattle.vcm_views.specs.Views.{AreRows, TellsMargin, HasRunTo, picture_of, Is
 use Rattle.vcm_views.specs.Views.{trace_view, points_view, margin_view, clearance_view, picture_view, why_view, contacts_view, values_view}
 use Rattle.vcm_sheet.specs.Sayings.{Says}
 use Rattle.vcm_views.specs.declared.sheets.Titles.{Titles}
+use Rattle.vcm_views.specs.declared.untried.Untried.{Untried}
 use Rattle.vcm_views.specs.Views.{sheet_said}
 use Rattle.vcm_views.specs.Laws.{SheetsSayOne, ViewsAreOne}
 use Rattle.vcm_views.proofs.ClearanceViews.{same_clearance}
@@ -98,11 +99,11 @@ module _ (part : Workpiece) (c : Code) (n : ℕ) (text other : List ℕ) (status
   same_rows : (t : RunRows) → AreRows t part c n text status → AreRows t part c n other more → (text ≡ other) × (status ≡ more)
   same_rows t h k = (h.text_is ∙ sym k.text_is, h.status_is ∙ sym k.status_is)
 
-  same_picture : (is_close : Bool) → IsPicture part c n is_close text status → IsPicture part c n is_close other more → (text ≡ other) × (status ≡ more)
-  same_picture is_close h k =
+  same_picture : (is_close : Bool) (untried : Untried) → IsPicture part c n is_close untried text status → IsPicture part c n is_close untried other more → (text ≡ other) × (status ≡ more)
+  same_picture is_close untried h k =
       let same = one_run_to part c n h.held k.held h.ran k.ran h.run k.run h.ample k.ample in
-      let drawn : picture_of part h.held h.ran.done (way_after part c h.ran.done) is_close ≡ picture_of part k.held k.ran.done (way_after part c k.ran.done) is_close =
-      ap (λ x. picture_of part x h.ran.done (way_after part c h.ran.done) is_close) same.0 ∙ ap (λ (r : Ran). picture_of part k.held r.done (way_after part c r.done) is_close) same.1 in
+      let drawn : picture_of part h.held h.ran.done (way_after part c h.ran.done) is_close untried ≡ picture_of part k.held k.ran.done (way_after part c k.ran.done) is_close untried =
+      ap (λ x. picture_of part x h.ran.done (way_after part c h.ran.done) is_close untried) same.0 ∙ ap (λ (r : Ran). picture_of part k.held r.done (way_after part c r.done) is_close untried) same.1 in
       (h.text_is ∙ drawn ∙ sym k.text_is, h.status_is ∙ ap (λ (x : Held). status_of x.state.stop) same.0 ∙ sym k.status_is)
 
   same_values : (places : List ℕ) → IsResultWith places part c n text status → IsResultWith places part c n other more → (text ≡ other) × (status ≡ more)
@@ -209,8 +210,8 @@ one_views = record {
   traces = λ part. one_view trace_view part (λ p l c n t u s m ok h k. same_rows part c n t u s m _ h k);
   points = λ part is_machine. one_view (points_view is_machine) part (λ p l c n t u s m ok h k. same_rows part c n t u s m _ h k);
   margins = λ part valid. one_view margin_view part (λ p l c n t u s m ok h k. one_margin_told part valid c ok n t u s m h k);
-  clearances = λ part names boxes valid are. one_view (clearance_view names boxes) part (λ p l c n t u s m ok h k. same_clearance names part boxes c n valid are t u s m h k);
-  pictures = λ part is_close. one_view (picture_view is_close) part (λ p l c n t u s m ok h k. same_picture part c n t u s m is_close h k);
+  clearances = λ part names untried boxes valid are. one_view (clearance_view names untried boxes) part (λ p l c n t u s m ok h k. same_clearance names untried part boxes c n valid are t u s m h k);
+  pictures = λ part is_close untried. one_view (picture_view is_close untried) part (λ p l c n t u s m ok h k. same_picture part c n t u s m is_close untried h k);
   reasons = λ part names. one_view (why_view names) part (λ p l c n t u s m ok h k. same_reason names p part c n t u s m h k);
   contacts = λ part names. one_view (contacts_view names) part (λ p l c n t u s m ok h k. same_contacts part c n t u s m names h k);
   values = λ part places. one_view (values_view places) part (λ p l c n t u s m ok h k. same_values part c n t u s m places h k);

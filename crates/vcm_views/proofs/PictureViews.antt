@@ -25,6 +25,8 @@ use Rattle.vcm_sheet.specs.Content.{content}
 use Rattle.vcm_sheet.specs.Filed.{SaidIn}
 use Rattle.vcm_sheet.specs.Sayings.{Says}
 use Rattle.vcm_views.specs.declared.sheets.Titles.{Titles}
+use Rattle.vcm_views.specs.declared.untried.Untried.{Untried}
+use Rattle.vcm_views.specs.Untried.{lines_of, marks_with}
 use Rattle.vcm_views.specs.Views.{HasRunTo, WroteNothing, IsSheet, picture_of, filed_with, sheet_said, picture_view, sheet_view}
 use Rattle.vcm_views.specs.inner.Drawn.{IsDrawn, IsNotDrawn, IsFiled, IsNotFiled}
 
@@ -47,35 +49,35 @@ module _ (w part : Workpiece) (same : w ≡ part) (c : Code) (n : ℕ) (held : H
       (subst (λ m. RunEnded n (started part c) m ran.done NoMemory) beside.has_run.new_is ended, Keeps-refl old)
 
 module _ (program : Option (List ℕ)) (notices : List Noticed) (w part : Workpiece) (same : w ≡ part) (c : Code) (n : ℕ) (held : Held) (ran : Ran) (way : Kept)
-    (followed : HasFollowed w c n held ran way) (is_close : Bool) where
+    (followed : HasFollowed w c n held ran way) (is_close : Bool) (untried : Untried) where
   module _ (ample : ran.end ≡ NoMemory → ⊥) where
-    drawn_viewed : (status : ℕ) (old after : Option (List ℕ)) → IsDrawn part held ran.done way is_close status old after
-        → IsViewed (picture_view is_close) program notices part c n status old after
+    drawn_viewed : (status : ℕ) (old after : Option (List ℕ)) → IsDrawn part held ran.done way is_close untried status old after
+        → IsViewed (picture_view is_close untried) program notices part c n status old after
     drawn_viewed status old after d = record {
-      text = picture_of part held ran.done way is_close;
+      text = picture_of part held ran.done way is_close untried;
       tells = record {
         held = held;
         ran = ran;
         run = run_to w part same c n held ran way followed;
         ample = ample;
-        text_is = ap (λ k. picture_of part held ran.done k is_close) (beside w part same c n held ran way followed).kept;
+        text_is = ap (λ k. picture_of part held ran.done k is_close untried) (beside w part same c n held ran way followed).kept;
         status_is = d.status_is;
       };
       written = d.written;
     }
 
-    drawn_cut_short : (f : Fault InputRefusal) (old after : Option (List ℕ)) → IsNotDrawn part held ran.done way is_close f old after
-        → IsCutShort (picture_view is_close) program notices part c n f old after
+    drawn_cut_short : (f : Fault InputRefusal) (old after : Option (List ℕ)) → IsNotDrawn part held ran.done way is_close untried f old after
+        → IsCutShort (picture_view is_close untried) program notices part c n f old after
     drawn_cut_short faults.NoMemory old after k = k
     drawn_cut_short (faults.Write d) old after front = record {
-      text = picture_of part held ran.done way is_close;
+      text = picture_of part held ran.done way is_close untried;
       status = status_of held.state.stop;
       tells = record {
         held = held;
         ran = ran;
         run = run_to w part same c n held ran way followed;
         ample = ample;
-        text_is = ap (λ k. picture_of part held ran.done k is_close) (beside w part same c n held ran way followed).kept;
+        text_is = ap (λ k. picture_of part held ran.done k is_close untried) (beside w part same c n held ran way followed).kept;
         status_is = refl;
       };
       front = front;
@@ -85,17 +87,17 @@ module _ (program : Option (List ℕ)) (notices : List Noticed) (w part : Workpi
     drawn_cut_short faults.Read old after t = absurd t
     drawn_cut_short faults.TooLong old after t = absurd t
 
-    pub picture_viewed : (r : Result ℕ (Fault InputRefusal)) (old after : Option (List ℕ)) → IfOk r (λ status. IsDrawn part held ran.done way is_close status old after)
-        → IfOk r (λ status. IsViewed (picture_view is_close) program notices part c n status old after)
+    pub picture_viewed : (r : Result ℕ (Fault InputRefusal)) (old after : Option (List ℕ)) → IfOk r (λ status. IsDrawn part held ran.done way is_close untried status old after)
+        → IfOk r (λ status. IsViewed (picture_view is_close untried) program notices part c n status old after)
     picture_viewed (Ok status) old after t = drawn_viewed status old after t
     picture_viewed (Err f) old after t = tt
 
-    pub picture_cut_short : (r : Result ℕ (Fault InputRefusal)) (old after : Option (List ℕ)) → IfErr r (λ f. IsNotDrawn part held ran.done way is_close f old after)
-        → IfErr r (λ f. IsCutShort (picture_view is_close) program notices part c n f old after)
+    pub picture_cut_short : (r : Result ℕ (Fault InputRefusal)) (old after : Option (List ℕ)) → IfErr r (λ f. IsNotDrawn part held ran.done way is_close untried f old after)
+        → IfErr r (λ f. IsCutShort (picture_view is_close untried) program notices part c n f old after)
     picture_cut_short (Ok status) old after t = tt
     picture_cut_short (Err f) old after t = drawn_cut_short f old after t
 
-  pub picture_halted : ran.end ≡ NoMemory → (old : Option (List ℕ)) → IsCutShort (picture_view is_close) program notices part c n (faults.Memory ran.done) old old
+  pub picture_halted : ran.end ≡ NoMemory → (old : Option (List ℕ)) → IsCutShort (picture_view is_close untried) program notices part c n (faults.Memory ran.done) old old
   picture_halted e old = wrote_nothing w part same c n held ran way followed e old
 
 -- the sheet
@@ -146,11 +148,11 @@ module _ (program : Option (List ℕ)) (notices : List Noticed) (w part : Workpi
   sheet_halted e old = wrote_nothing w part same c n held ran way followed e old
 
 -- what a sheet says of the marks that a way keeps
-module _ (t : Titles) (part : Workpiece) (held : Held) (done : ℕ) (way : Kept) (marks : List PlacedMark) (left_out : ℕ) (same : marks ≡ way.marks)
+module _ (t : Titles) (part : Workpiece) (held : Held) (done : ℕ) (way : Kept) (marks : List PlacedMark) (left_out : ℕ) (same : marks ≡ marks_with t.untried way.marks)
     (as_many : left_out ≡ way.left_out) where
   same_said : content (filed_with t part held done marks left_out) ≡ sheet_said t part held done way
   same_said =
-      ap (λ m. content (filed_with t part held done m left_out)) same ∙ ap (λ k. content (filed_with t part held done way.marks k)) as_many
+      ap (λ m. content (filed_with t part held done m left_out)) same ∙ ap (λ k. content (filed_with t part held done (marks_with t.untried way.marks) k)) as_many
 
   pub said_of : (P : List ℕ → Type 0) → SaidIn (content (filed_with t part held done marks left_out)) P → SaidIn (sheet_said t part held done way) P
   said_of P h = subst (λ s. SaidIn s P) same_said h
@@ -160,15 +162,15 @@ module _ (t : Titles) (part : Workpiece) (held : Held) (done : ℕ) (way : Kept)
   filed_of status stop old new e f h = record { status_is = e ∙ ap status_of f; sheet = said_of (Appends old new) h }
 
 -- what was written of the marks that a way keeps
-module _ (part : Workpiece) (held : Held) (done : ℕ) (way : Kept) (is_close : Bool) (marks : List PlacedMark) (left_out : ℕ)
-    (same : marks ≡ way.marks) (as_many : left_out ≡ way.left_out) where
-  same_text : picture_text (sheet part held done marks left_out is_close) ≡ picture_of part held done way is_close
-  same_text = ap (λ m. picture_text (sheet part held done m left_out is_close)) same ∙ ap (λ k. picture_text (sheet part held done way.marks k is_close)) as_many
+module _ (part : Workpiece) (held : Held) (done : ℕ) (way : Kept) (is_close : Bool) (untried : Untried) (marks : List PlacedMark) (left_out : ℕ)
+    (same : marks ≡ marks_with untried way.marks) (as_many : left_out ≡ way.left_out) where
+  same_text : picture_text (sheet part held done marks left_out is_close (lines_of untried)) ≡ picture_of part held done way is_close untried
+  same_text = ap (λ m. picture_text (sheet part held done m left_out is_close (lines_of untried))) same ∙ ap (λ k. picture_text (sheet part held done (marks_with untried way.marks) k is_close (lines_of untried))) as_many
 
   pub drawn_of : (status : ℕ) (stop : Option StopPlace) (old new : Option (List ℕ)) → status ≡ status_of stop → stop ≡ held.state.stop
-      → Appends old new (picture_text (sheet part held done marks left_out is_close)) → IsDrawn part held done way is_close status old new
+      → Appends old new (picture_text (sheet part held done marks left_out is_close (lines_of untried))) → IsDrawn part held done way is_close untried status old new
   drawn_of status stop old new e f w = record { status_is = e ∙ ap status_of f; written = subst (Appends old new) same_text w }
 
-  pub drawn_in_part : (old new : Option (List ℕ)) → AppendsFront old new (picture_text (sheet part held done marks left_out is_close))
-      → AppendsFront old new (picture_of part held done way is_close)
+  pub drawn_in_part : (old new : Option (List ℕ)) → AppendsFront old new (picture_text (sheet part held done marks left_out is_close (lines_of untried)))
+      → AppendsFront old new (picture_of part held done way is_close untried)
   drawn_in_part old new w = subst (AppendsFront old new) same_text w

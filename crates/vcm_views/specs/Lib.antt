@@ -1,3 +1,4 @@
+pub mod Untried
 pub mod Views
 pub mod Laws
 pub mod inner

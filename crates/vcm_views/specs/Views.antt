@@ -27,6 +27,8 @@ use Rattle.vcm_marks.specs.declared.mark.PlacedMark.{PlacedMark}
 use Rattle.vcm_sheet.specs.Content.{Filing, content}
 use Rattle.vcm_sheet.specs.Sayings.{Saying, Says}
 use Rattle.vcm_views.specs.declared.sheets.Titles.{Titles}
+use Rattle.vcm_views.specs.declared.untried.Untried.{Untried}
+use Rattle.vcm_views.specs.Untried.{lines_of, marks_with}
 use Rattle.vcm_boxes.specs.declared.boxes.ProbeBox.{ProbeBox}
 use Rattle.vcm_way.specs.Gone.{ways_of}
 use Rattle.vcm_clearance.specs.declared.room.Room.{Room}
@@ -64,17 +66,18 @@ pub record IsMarginOrResult (part : Workpiece) (c : Code) (n : ℕ) (text : List
   pub told : TellsMargin (nat_eq status 0) part c held ran.done text
   pub status_is : status ≡ status_of held.state.stop
 
--- the picture of a run that came to this state after so many steps, with what is kept of its way
-abbrev pub picture_of : Workpiece → Held → ℕ → Kept → Bool → List ℕ
-picture_of part held done way is_close = picture_text (sheet part held done way.marks way.left_out is_close)
+-- the picture of a run that came to this state after so many steps, with what is kept of its way, and of which this wasn't tried
+abbrev pub picture_of : Workpiece → Held → ℕ → Kept → Bool → Untried → List ℕ
+picture_of part held done way is_close untried =
+    picture_text (sheet part held done (marks_with untried way.marks) way.left_out is_close (lines_of untried))
 
 -- the picture of a run that memory did not cut short
-pub record IsPicture (part : Workpiece) (c : Code) (n : ℕ) (is_close : Bool) (text : List ℕ) (status : ℕ) : Type 0 where
+pub record IsPicture (part : Workpiece) (c : Code) (n : ℕ) (is_close : Bool) (untried : Untried) (text : List ℕ) (status : ℕ) : Type 0 where
   pub held : Held
   pub ran : Ran
   pub run : HasRunTo part c n held ran
   pub ample : ran.end ≡ NoMemory → ⊥
-  pub text_is : text ≡ picture_of part held ran.done (way_after part c ran.done) is_close
+  pub text_is : text ≡ picture_of part held ran.done (way_after part c ran.done) is_close untried
   pub status_is : status ≡ status_of held.state.stop
 
 -- the exit status of a clearance: 3 where a box is met, else that of the run
@@ -82,11 +85,11 @@ abbrev pub clearance_status : Bool → Option StopPlace → ℕ
 clearance_status true stop = 3
 clearance_status false stop = status_of stop
 
--- the clearance of boxes in a run for at most n steps, beside blocks with these names
-pub record IsClearanceOf (names : List (List ℕ)) (part : Workpiece) (boxes : List ProbeBox) (c : Code) (n : ℕ) (text : List ℕ) (status : ℕ) : Type 0 where
+-- the clearance of boxes in a run for at most n steps, beside blocks with these names, with what is told of ways that weren't tried
+pub record IsClearanceOf (names : List (List ℕ)) (untried : List ℕ) (part : Workpiece) (boxes : List ProbeBox) (c : Code) (n : ℕ) (text : List ℕ) (status : ℕ) : Type 0 where
   pub rooms : List Room
   pub are_rooms : AreRooms part.blocks boxes (ways_of part c n) rooms
-  pub text_is : text ≡ clearance_text names part boxes c n rooms
+  pub text_is : text ≡ clearance_text names untried part boxes c n rooms
   pub status_is : status ≡ clearance_status (list_any is_met_room rooms) (state_after part c n).world.stop
 
 -- a run for at most n steps was refused memory after so many of them
@@ -110,11 +113,12 @@ filed_with t part held done marks left_out = record {
   program_name = t.program_name.now;
   part_name = t.part_name.now;
   block_names = map (λ n. n.items) t.block_names.now;
+  untried = lines_of t.untried;
 }
 
 -- what the sheet of such a run says, with what is kept of its way
 abbrev pub sheet_said : Titles → Workpiece → Held → ℕ → Kept → List Saying
-sheet_said t part held done way = content (filed_with t part held done way.marks way.left_out)
+sheet_said t part held done way = content (filed_with t part held done (marks_with t.untried way.marks) way.left_out)
 
 -- a sheet of a run that memory did not cut short, with the run's exit status: what it says is said, how it is painted isn't
 pub record IsSheet (t : Titles) (part : Workpiece) (c : Code) (n : ℕ) (text : List ℕ) (status : ℕ) : Type 0 where
@@ -168,15 +172,15 @@ abbrev pub margin_view : RunView
 margin_view = record { tells = λ program notices. IsMarginOrResult; halted = WroteNothing }
 
 -- the clearance of boxes; where memory was refused, the contacts in the steps before were written
-abbrev pub clearance_view : List (List ℕ) → List ProbeBox → RunView
-clearance_view names boxes = record {
-  tells = λ program notices part c n. IsClearanceOf names part boxes c n;
+abbrev pub clearance_view : List (List ℕ) → List ℕ → List ProbeBox → RunView
+clearance_view names untried boxes = record {
+  tells = λ program notices part c n. IsClearanceOf names untried part boxes c n;
   halted = λ part c n done old new. IsHaltedAfter part c n done × Appends old new (contacts_front names part boxes c done);
 }
 
 -- the picture
-abbrev pub picture_view : Bool → RunView
-picture_view is_close = record { tells = λ program notices part c n. IsPicture part c n is_close; halted = WroteNothing }
+abbrev pub picture_view : Bool → Untried → RunView
+picture_view is_close untried = record { tells = λ program notices part c n. IsPicture part c n is_close untried; halted = WroteNothing }
 
 -- the sheet
 abbrev pub sheet_view : Titles → RunView

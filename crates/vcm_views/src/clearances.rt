@@ -25,16 +25,17 @@ fn status_with(cleared: Cleared) -> u8
     }
 }
 
-/// Which of these boxes, which are fixed to the tip, meet a block, and how much room the others have. The names of the part's blocks, each of which may be
-/// empty, are told with the blocks.
+/// Which of these boxes, which are fixed to the tip, meet a block, and how much room the others have. What is told of ways that weren't tried stands behind the number
+/// of ways. The names of the part's blocks, each of which may be empty, are told with the blocks.
 #[derive(Clone, Copy)]
 pub struct Clearance<'a> {
     pub boxes: &'a Boxes,
+    pub untried: &'a [u8],
     pub block_names: &'a [Vec<u8>],
 }
 
 impl<W: Write> Shows<W> for Clearance<'_> {
-    ghost RunView = { λ s. clearance_view (map (λ name. name.items) s.block_names.now) s.boxes.now };
+    ghost RunView = { λ s. clearance_view (map (λ name. name.items) s.block_names.now) s.untried.now s.boxes.now };
 
     fn show(
         &self,
@@ -52,7 +53,15 @@ impl<W: Write> Shows<W> for Clearance<'_> {
             return Err(RunFault::NoMemory);
         };
         match clearance(
-            alloc, loaded, &workpiece, part, self.boxes, steps, &mut names, writer,
+            alloc,
+            loaded,
+            &workpiece,
+            part,
+            self.boxes,
+            steps,
+            self.untried,
+            &mut names,
+            writer,
         ) {
             Ok(cleared) => Ok(status_with(cleared)),
             Err(fault) => Err(cut_short(fault)),

@@ -11,6 +11,7 @@ mod reasons;
 mod sheets;
 mod traces;
 mod unfinished;
+mod untried;
 mod values;
 
 pub use clearances::Clearance;
@@ -20,4 +21,5 @@ pub use pictures::Picture;
 pub use reasons::Why;
 pub use sheets::{SheetView, Titles};
 pub use traces::{Points, Trace};
+pub use untried::{Untried, all_tried};
 pub use values::Values;

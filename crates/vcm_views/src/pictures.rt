@@ -4,6 +4,7 @@ ghost use Rattle.std.specs.Prelude.{IfOk, IfErr};
 ghost use Rattle.vcm_views.specs.Views.{picture_view};
 ghost use Rattle.vcm_views.specs.inner.Drawn.{IsDrawn, IsNotDrawn};
 
+use crate::untried::{Untried, flagged};
 use std::alloc::Global;
 use std::io::Write;
 use vcm_job::{Given, RunFault, Shows, is_halted, status_of};
@@ -22,21 +23,25 @@ fn draw<W: Write>(
     done: u64,
     way: &Way,
     is_close: bool,
+    untried: &Untried<'_>,
     writer: &mut W,
 ) -> Result<u8, RunFault>
-    ensures drawn { IfOk result (λ status. IsDrawn part.now world.now done way.now is_close status (W.contents writer.old) (W.contents writer.new)) }
-    ensures fault { IfErr result (λ f. IsNotDrawn part.now world.now done way.now is_close f (W.contents writer.old) (W.contents writer.new)) }
+    ensures drawn { IfOk result (λ status. IsDrawn part.now world.now done way.now is_close untried.now status (W.contents writer.old) (W.contents writer.new)) }
+    ensures fault { IfErr result (λ f. IsNotDrawn part.now world.now done way.now is_close untried.now f (W.contents writer.old) (W.contents writer.new)) }
 {
     let status = status_of(world.stop());
-    let marks = way.marks();
+    let Ok(marks) = flagged(alloc, untried.elsewhere, way.marks()) else {
+        return Err(RunFault::NoMemory);
+    };
     match write_picture(
         alloc,
         part,
         world,
         done,
-        marks,
+        marks.as_slice(),
         way.left_out(),
         is_close,
+        untried.lines,
         writer,
     ) {
         Ok(()) => Ok(status),
@@ -45,14 +50,16 @@ fn draw<W: Write>(
     }
 }
 
-/// Three views of the workpiece and of the way of the probe, as SVG; a close one shows the blocks as large as they are.
+/// Three views of the workpiece and of the way of the probe, as SVG; a close one shows the blocks as large as they are. What of a whole program wasn't tried stands in its
+/// heading.
 #[derive(Clone, Copy)]
-pub struct Picture {
+pub struct Picture<'a> {
     pub is_close: bool,
+    pub untried: Untried<'a>,
 }
 
-impl<W: Write> Shows<W> for Picture {
-    ghost RunView = { λ s. picture_view s.is_close };
+impl<W: Write> Shows<W> for Picture<'_> {
+    ghost RunView = { λ s. picture_view s.is_close s.untried };
 
     fn show(
         &self,
@@ -80,6 +87,7 @@ impl<W: Write> Shows<W> for Picture {
             ran.done,
             &followed.way,
             self.is_close,
+            &self.untried,
             writer,
         )
     }

@@ -4,6 +4,7 @@ ghost use Rattle.std.specs.Prelude.{IfOk, IfErr};
 ghost use Rattle.vcm_views.specs.Views.{sheet_view};
 ghost use Rattle.vcm_views.specs.inner.Drawn.{IsFiled, IsNotFiled};
 
+use crate::untried::{Untried, flagged};
 use std::alloc::Global;
 use std::io::Write;
 use vcm_job::{Given, RunFault, Shows, is_halted, status_of};
@@ -14,7 +15,7 @@ use vcm_sheet::{Lines, PictureFault, Sheet, write_sheet};
 use vcm_state::World;
 use vcm_way::{Way, follow};
 
-/// What a sheet shows besides the run: the names of the files and of the blocks, the source lines, and whether it is close.
+/// What a sheet shows besides the run: the names of the files and of the blocks, the source lines, whether it is close, and what of a whole program wasn't tried.
 #[derive(Clone, Copy)]
 pub struct Titles<'a> {
     pub program_name: &'a [u8],
@@ -22,6 +23,7 @@ pub struct Titles<'a> {
     pub block_names: &'a [Vec<u8>],
     pub lines: Lines,
     pub is_close: bool,
+    pub untried: Untried<'a>,
 }
 
 // Writes the sheet of a run that came to a state behind so many steps, and gives the exit status.
@@ -38,18 +40,21 @@ fn file<W: Write>(
     ensures fault { IfErr result (λ f. IsNotFiled titles.now part.now world.now done way.now f (W.contents writer.old) (W.contents writer.new)) }
 {
     let status = status_of(world.stop());
-    let marks = way.marks();
+    let Ok(marks) = flagged(alloc, titles.untried.elsewhere, way.marks()) else {
+        return Err(RunFault::NoMemory);
+    };
     let sheet = Sheet {
         part,
         world,
         done,
-        marks,
+        marks: marks.as_slice(),
         left_out: way.left_out(),
         is_close: titles.is_close,
         lines: titles.lines,
         program_name: titles.program_name,
         part_name: titles.part_name,
         block_names: titles.block_names,
+        untried: titles.untried.lines,
     };
     match write_sheet(alloc, &sheet, writer) {
         Ok(()) => Ok(status),

@@ -1,5 +1,5 @@
 -- Worked examples: a block from (10, 10, 0) to (30, 30, 20), in millimetres, limits of half a metre on each side, home at (0, 0, 100).
-use Rattle.std.specs.Prelude.{◌≡◌, refl, ℕ, List, [], ◌∷◌, Some, None}
+use Rattle.std.specs.Prelude.{◌≡◌, refl, ℕ, false, List, [], ◌∷◌, Some, None}
 use Rattle.vcm_num.specs.declared.axis.Axis.TheVariants.{PlusZ}
 use Rattle.vcm_num.specs.declared.point.Point.{Point}
 use Rattle.vcm_num.specs.Point.{coordinate}
@@ -72,7 +72,7 @@ ways_touched = refl
 
 -- marks of the steps 1, 2 and 2
 abbrev placed : ℕ → Mark → PlacedMark
-placed step mark = record { mark = mark; step = step; number = 0; line = 1 }
+placed step mark = record { mark = mark; step = step; number = 0; line = 1; is_elsewhere = false }
 
 abbrev three : List PlacedMark
 three = placed 1 (goes going.Move home home) ∷ placed 2 (touches home 0) ∷ placed 2 (goes going.Retract home home) ∷ []

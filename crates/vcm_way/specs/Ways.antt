@@ -1,5 +1,5 @@
 -- The way of a run, step by step, and what a way keeps of it.
-use Rattle.std.specs.Prelude.{ℕ, ◌-◌, nat_le, if◌then◌else◌, List, [], ◌∷◌, map, flat_map, Option, Some, None}
+use Rattle.std.specs.Prelude.{ℕ, ◌-◌, nat_le, false, if◌then◌else◌, List, [], ◌∷◌, map, flat_map, Option, Some, None}
 use Rattle.vcm_spec.specs.declared.stop.Stop.{Stop}
 use Rattle.vcm_spec.specs.declared.stop.StopPlace.{StopPlace}
 use Rattle.vcm_spec.specs.Workpiece.{Workpiece}
@@ -17,7 +17,7 @@ reason (Some p) = Some p.stop
 
 -- marks of one step, with it and with the number and the line of its statement
 abbrev pub placed : ℕ → ℕ → ℕ → List Mark → List PlacedMark
-placed step number line marks = map (λ mark. record { mark = mark; step = step; number = number; line = line }) marks
+placed step number line marks = map (λ mark. record { mark = mark; step = step; number = number; line = line; is_elsewhere = false }) marks
 
 -- the marks that a step adds
 abbrev pub step_marks : Workpiece → Passage → List Mark

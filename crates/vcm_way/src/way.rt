@@ -105,6 +105,7 @@ impl Way {
                 step: place.step,
                 number: place.number,
                 line: place.line,
+                is_elsewhere: false,
             })?;
         }
         Ok(())

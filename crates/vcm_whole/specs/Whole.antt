@@ -28,6 +28,8 @@ use Rattle.vcm_plain.specs.Units.{all_in, lengths_of}
 use Rattle.vcm_said.specs.All.{said_all, refused_from}
 use Rattle.vcm_given.specs.declared.choices.Choices.{Choices}
 use Rattle.vcm_given.specs.Chosen.{is_silent, chosen}
+use Rattle.vcm_given.specs.Texts.{given_texts}
+use Rattle.vcm_compared.specs.Compared.{compared}
 use Rattle.vcm_datums.specs.Dated.{dated}
 use Rattle.vcm_certain.specs.Certain.{is_certain}
 use Rattle.vcm_given.specs.Unused.{unused}
@@ -36,6 +38,7 @@ use Rattle.vcm_whole.specs.declared.whole.Facts.{Facts}
 use Rattle.vcm_given.specs.Tips.{other_tips}
 use Rattle.vcm_whole.specs.Losses.{lossy_lines, says_unit, says_mode, says_sensor, unlooked}
 use Rattle.vcm_whole.specs.Frames.{named_frames}
+use Rattle.vcm_whole.specs.Readings.{readings_of}
 use Rattle.vcm_kept.specs.Guarding.{guarded}
 use Rattle.vcm_kept.specs.Put.{placed_in, remarks_in}
 use Rattle.vcm_num.specs.declared.limits.TheConstants.{MOST_STATEMENTS}
@@ -47,9 +50,9 @@ pub record ReadsPlain (text : List ℕ) (lengths : Lengths) (lines : List Logica
   pub lengths_are : lengths ≡ lengths_of written
   pub read : ReadsLines (plain lengths text) lines
 
--- what the statements of a text say, with what a command line says of them, and with its datums; where something is read in two ways it isn't known
+-- what the statements of a text say, with its texts counted, with what a command line says of them, and with its datums; where something is read in two ways it isn't known
 abbrev pub statements_of : Choices → List ℕ → List Logical → List Statement
-statements_of c text ls = settled text ls (dated ls (chosen c ls (said_all ls)))
+statements_of c text ls = settled text ls (dated ls (chosen c ls (compared (given_texts c.answers) ls (said_all ls))))
 
 -- the text reads as these statements, none of those that shape the program is faulty, and what they say expands to these
 pub record Expands (c : Choices) (text : List ℕ) (lengths : Lengths) (lines : List Logical) (expanded : List Placed) : Type 0 where
@@ -91,6 +94,7 @@ pub record IsWholeBuilt (c : Choices) (text bytes : List ℕ) (notices : List No
   pub sensor_said : facts.says_sensor ≡ says_sensor lines
   pub tips_are : facts.tips ≡ other_tips c.tip lines
   pub unlooked_are : facts.unlooked ≡ unlooked lines
+  pub readings_are : facts.readings ≡ readings_of lines (statements_of c text lines)
 
 -- whether a declaration declares names of variables
 abbrev pub is_lettered : Form → Bool

@@ -4,7 +4,9 @@
 mod frames;
 pub mod laws;
 mod losses;
+mod readings;
 mod whole;
 
 pub use frames::FrameLine;
+pub use readings::Readings;
 pub use whole::{Facts, Whole, build_whole, count_put};

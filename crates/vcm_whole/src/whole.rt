@@ -32,12 +32,14 @@ ghost use Rattle.vcm_whole.specs.Whole.{ReadsPlain, statements_of, is_rewritten 
 
 use crate::frames::{FrameLine, named_frames};
 use crate::losses::{lossy_lines, says_mode, says_sensor, says_unit, unlooked};
+use crate::readings::{Readings, readings_of};
 use std::alloc::Global;
 use vcm_certain::is_certain;
+use vcm_compared::compare;
 use vcm_datums::date;
 use vcm_doubts::settle;
 use vcm_forms::{Form, Statement};
-use vcm_given::{Choices, OtherTip, choose, first_unused, other_tips};
+use vcm_given::{Choices, OtherTip, choose, first_unused, given_texts, other_tips};
 use vcm_items::{Name, VariableName, is_variable_name};
 use vcm_kept::{Put, put_text};
 use vcm_lines::{FaultCode, Logical, SourceFault, logical_lines};
@@ -77,6 +79,8 @@ pub struct Facts {
     pub tips: Items<OtherTip>,
     /// The words of its statements that aren't looked at, each once.
     pub unlooked: Items<Name>,
+    /// What hangs on how a machine counts and reads it, and is taken in one way.
+    pub readings: Readings,
 }
 
 /// The image of the program that a producer's text is put as.
@@ -280,7 +284,9 @@ fn statements_of(
     requires { said.items ≡ said_all lines.now }
     ensures { IfOk result (λ ss. ss.items ≡ statements_of choices.now text.now lines.now) }
 {
-    let chosen = choose(alloc, choices, lines, said)?;
+    let given = given_texts(alloc, choices.answers.as_slice())?;
+    let compared = compare(alloc, given.as_slice(), lines, said)?;
+    let chosen = choose(alloc, choices, lines, compared)?;
     let dated = date(alloc, lines, chosen)?;
     settle(alloc, text, lines, dated)
 }
@@ -315,6 +321,7 @@ fn whole_of(
     reading: Reading,
     losses: Items<u32>,
     frames: Items<FrameLine>,
+    readings: Readings,
     lines: &[Logical],
 ) -> Whole
     ensures program { (result.image ≡ program.image) × (result.notices ≡ program.notices) × (result.remarks ≡ program.remarks) }
@@ -331,6 +338,7 @@ fn whole_of(
       says_sensor = sensor_said lines.now;
       tips = reading.tips;
       unlooked = reading.unlooked;
+      readings = readings;
     } }
 {
     let Program {
@@ -359,6 +367,7 @@ fn whole_of(
         says_sensor: says_sensor(lines),
         tips,
         unlooked,
+        readings,
     };
     Whole {
         image,
@@ -393,12 +402,15 @@ fn build_statements(
     let Ok(notices) = noted(alloc, &statements) else {
         return Err(Refusal::NoMemory);
     };
+    let Ok(readings) = readings_of(alloc, lines, &statements) else {
+        return Err(Refusal::NoMemory);
+    };
     let expanded = match expand(alloc, statements) {
         Ok(expanded) => expanded,
         Err(fault) => return Err(Refusal::Source(fault)),
     };
     match build_program(alloc, choices, text, notices, expanded) {
-        Ok(program) => Ok(whole_of(program, reading, losses, frames, lines)),
+        Ok(program) => Ok(whole_of(program, reading, losses, frames, readings, lines)),
         Err(refusal) => Err(refusal),
     }
 }

@@ -16,7 +16,7 @@ returns-in-Err-clause-fault g c =
     let are = c.as_slice-boxes.ensures.valid in
     let code = c.args.loaded.now in
     let start : IsDone part.blocks boxes [] c.args.rooms.now.items 0 = rw c.requires.rooms (opened part.blocks boxes) in
-    broken_off part valid boxes are code c.args.steps c.args.rooms.now.items 0 (page (g.W.Write.contents c.args.writer.now) c.args.names.now)
+    broken_off part valid boxes are code c.args.steps c.args.untried.now c.args.rooms.now.items 0 (page (g.W.Write.contents c.args.writer.now) c.args.names.now)
     (page (g.W.Write.contents c.try_run.new.writer) c.try_run.new.names) start c.in-Err.fault (rw c.requires.beside at c.in-Err.ensures.err)
 
 pub returns-in-NoMemory-clause-fault : goal.returns-in-NoMemory-clause-fault
@@ -54,7 +54,7 @@ returns-in-Ok-write_summary-clause-cleared g c =
     let stop = c.world-world.result.now.state.stop in
     let same = ap (λ s. s.stop) c.world-world.ensures.state in
     let tables = c.world-world.ensures.tables ∙ tables_are part valid boxes are code c.args.steps first m ran is c.in-Ok.ensures.run in
-    cleared part valid boxes are code c.args.steps first m ran is c.in-Ok.ensures.run c.args.rooms.now.items c.try_run.new.rooms.items c.in-Ok.tried.1 (page (g.W.Write.contents c.args.writer.now) c.args.names.now) (page (g.W.Write.contents c.try_run.new.writer) c.try_run.new.names) start tried ample stop same
+    cleared part valid boxes are code c.args.steps first m ran is c.in-Ok.ensures.run c.args.rooms.now.items c.try_run.new.rooms.items c.in-Ok.tried.1 (page (g.W.Write.contents c.args.writer.now) c.args.names.now) (page (g.W.Write.contents c.try_run.new.writer) c.try_run.new.names) start tried c.args.untried.now ample stop same
     _ _ (rw c.as_slice-known.ensures.value at c.is_some_met.ensures) c.stop.ensures (rw (c.as_slice-boxes.ensures.boxes, c.as_slice-known.ensures.value, tables) at c.in-Ok-write_summary.ensures)
 
 pub returns-in-Err-write_summary-clause-fault : goal.returns-in-Err-write_summary-clause-fault
@@ -77,5 +77,5 @@ returns-in-Err-write_summary-clause-fault g c =
     let stop = c.world-world.result.now.state.stop in
     let same = ap (λ s. s.stop) c.world-world.ensures.state in
     let tables = c.world-world.ensures.tables ∙ tables_are part valid boxes are code c.args.steps first m ran is c.in-Ok.ensures.run in
-    cut_off part valid boxes are code c.args.steps first m ran is c.in-Ok.ensures.run c.args.rooms.now.items c.try_run.new.rooms.items c.in-Ok.tried.1 (page (g.W.Write.contents c.args.writer.now) c.args.names.now) (page (g.W.Write.contents c.try_run.new.writer) c.try_run.new.names) start tried ample stop same
+    cut_off part valid boxes are code c.args.steps first m ran is c.in-Ok.ensures.run c.args.rooms.now.items c.try_run.new.rooms.items c.in-Ok.tried.1 (page (g.W.Write.contents c.args.writer.now) c.args.names.now) (page (g.W.Write.contents c.try_run.new.writer) c.try_run.new.names) start tried c.args.untried.now ample stop same
     _ (rw (c.as_slice-boxes.ensures.boxes, c.as_slice-known.ensures.value, tables) at c.in-Err-write_summary.ensures)

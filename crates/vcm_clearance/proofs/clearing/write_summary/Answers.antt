@@ -10,8 +10,8 @@ returns-in_err-write_ways g c =
     let p = err_from_is_err_and c.from_residual.result c.from_residual.ensures.1 in
     let w = c.args.world.now in
     let rest = boxes_lines c.args.boxes.now c.args.rooms.now ++ last_line w.tables w.state.stop c.args.done ∷ [] in
-    rw p.1 (adds_front_first _ _ _ rest _ refl (line_cut (plain (ways_text c.args.count)) c.args.names.now _ _ _ c.in_err-write_ways.ensures))
+    rw p.1 (adds_front_first _ _ _ rest _ refl (line_cut (plain (ways_text c.args.untried.now c.args.count)) c.args.names.now _ _ _ c.in_err-write_ways.ensures))
 
 pub returns : goal.returns
 returns g c =
-    added_then _ _ _ _ _ _ _ refl (plain_adds (ways_text c.args.count) c.args.names.now _ _ c.in_ok-write_ways.ensures) c.write_rest.ensures
+    added_then _ _ _ _ _ _ _ refl (plain_adds (ways_text c.args.untried.now c.args.count) c.args.names.now _ _ c.in_ok-write_ways.ensures) c.write_rest.ensures

@@ -12,7 +12,9 @@ returns c =
     let search = sign_row u.search (codes "search") in
     let retract = sign_row u.retract (codes "retract") in
     let rest = sign_row u.rest (codes "not reached") in
-    adds_last c.put_sign-5.result moves (approach ++ (search ++ (retract ++ rest))) _ _ _ c.in_ok-at.ensures
-    (adds_last c.put_sign-5.result approach (search ++ (retract ++ rest)) _ _ _ c.in_ok-at-2.ensures
-    (adds_last c.put_sign-5.result search (retract ++ rest) _ _ _ c.in_ok-at-3.ensures
-    (adds_last c.put_sign-5.result retract rest _ _ _ c.in_ok-at-4.ensures c.put_sign-5.ensures)))
+    let elsewhere = sign_row u.elsewhere (codes "begins elsewhere") in
+    adds_last c.put_sign-6.result moves (approach ++ (search ++ (retract ++ (rest ++ elsewhere)))) _ _ _ c.in_ok-at.ensures
+    (adds_last c.put_sign-6.result approach (search ++ (retract ++ (rest ++ elsewhere))) _ _ _ c.in_ok-at-2.ensures
+    (adds_last c.put_sign-6.result search (retract ++ (rest ++ elsewhere)) _ _ _ c.in_ok-at-3.ensures
+    (adds_last c.put_sign-6.result retract (rest ++ elsewhere) _ _ _ c.in_ok-at-4.ensures
+    (adds_last c.put_sign-6.result rest elsewhere _ _ _ c.in_ok-at-5.ensures c.put_sign-6.ensures))))
