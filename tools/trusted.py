@@ -46,6 +46,7 @@ PROMISES = {
     "why": ["vcm_why/src", "vcm_cause/src", "vcm_calls/src"],
     "contacts": ["vcm_contacts/src"],
     "part": ["vcm_keys/src"],
+    "probe": ["vcm_hardware/src"],
     "survey": ["vcm_survey/src", "vcm_adapt/src", "vcm_classes/src", "vcm_sentences/src", "vcm_standard/src"],
     "values": ["vcm_values/src"],
     "place": ["vcm_place/src", "vcm_summary/src"],

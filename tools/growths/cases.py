@@ -55,6 +55,11 @@ FILES = {
     # a clamp that stays where the workpiece lies off its place
     "clamped.toml": BOUNDS + "[[block]]\nlow = [10000, 10000, 0]\nhigh = [30000, 30000, 20000]\n[[block]]\nlow = [-60000, 10000, 0]\nhigh = [-40000, 30000, 20000]\nfixture = true\n",
     "inline.toml": BOUNDS + "block = [{low = [10000, 10000, 0], high = [30000, 30000, 20000]}]\n",
+    # what hangs on a head: a star, and a part that has too many boxes
+    "star.toml": 'variable = "TOOL"\nstep = 1000\n[[part]]\nname = "arm"\nfrom = [-30000, 0, -50000]\nto = [30000, 0, -50000]\ndiameter = 1500\n'
+    + "".join(f'[[tip]]\nname = "{it}"\nat = [{at}, 0, -50000]\ndiameter = 3000\n[[probe]]\nname = "{it}+0.0"\ntip = "{it}"\na = 0\nb = 0\n' for it, at in (("L", -32000), ("R", 32000))),
+    "many.toml": 'step = 100\n[[part]]\nname = "shaft"\nfrom = [0, 0, 0]\nto = [0, 0, -50000]\ndiameter = 1500\n'
+    '[[tip]]\nname = "T"\nat = [0, 0, -50000]\ndiameter = 3000\n[[probe]]\nname = "A45"\ntip = "T"\na = 45000\nb = 0\n',
     "torn.stl": "solid part\nfacet normal 0 0 1\nouter loop\nvertex 0 0 0\nvertex 20 0\n",
 }
 
@@ -296,6 +301,15 @@ def models():
     yield case("blocks cube.stl --at 1,2", status=2)
 
 
+def probes():
+    """Probe files of what hangs on a head."""
+    yield case("probe head.toml")
+    yield case("probe star.toml")
+    yield case("probe -", read("head.toml"))
+    yield case("probe torn.toml", status=1)
+    yield case("probe many.toml", status=1)
+
+
 def jobs_at_a_terminal():
     """Jobs, of which more is told at a terminal, and with `--talk`."""
     for part, program, status in (
@@ -355,7 +369,7 @@ def at_its_end(found):
 
 def cases(table):
     """All cases; the help of each command of the table among them."""
-    found = [*runs(), *texts(), *produced(), *models(), *jobs_at_a_terminal(), *told(), *sessions()]
+    found = [*runs(), *texts(), *produced(), *models(), *probes(), *jobs_at_a_terminal(), *told(), *sessions()]
     return [*found, *at_its_end(found), *(case(f"{name} --help") for name in table)]
 
 

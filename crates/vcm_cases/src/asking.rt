@@ -204,6 +204,7 @@ fn asked(alloc: Global, request: &Request<'_, '_>) -> String {
         Verb::Asm => joined(alloc, &["asm listing=", input, " image=", request.image()]),
         Verb::Part => joined(alloc, &["part part=", input]),
         Verb::Blocks => blocks_asked(alloc, request),
+        Verb::Probe => joined(alloc, &["probe hardware=", input]),
         Verb::Points => run_asked(
             alloc,
             &[named(request, Choice::Machine, "machine", "points")],

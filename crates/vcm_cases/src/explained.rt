@@ -23,6 +23,7 @@ fn line_for(kind: &str) -> &'static str {
         "from line 3 on, beside part-a.toml of the examples" => "vcm run made t.toml",
         "a part file" => "vcm run t.dmi made",
         "a probe file" => "vcm clearance t.dmi t.toml made",
+        "a description" => "vcm probe made",
         "a listing" => "vcm asm made image",
         "a model" => "vcm blocks made",
         "in a session on lines.dmi of the examples" => "vcm debug made t.toml",

@@ -1,5 +1,5 @@
 //! The commands of vcm: what its command line asks for is carried out. Here stand checks and trials of several programs, workpieces off their
-//! place, producers' texts, blocks of models, explanations and the debug adapter; the others stand in `vcm_devices`.
+//! place, producers' texts, blocks of models, probe files, explanations and the debug adapter; the others stand in `vcm_devices`.
 #![tactic(auto)]
 
 mod blocks;
@@ -8,6 +8,7 @@ mod checks;
 mod choices;
 mod dap;
 mod explaining;
+mod hardware;
 mod judge;
 mod judged;
 mod off_place;

@@ -5,6 +5,7 @@ use crate::checks::check_programs;
 use crate::choices::says_of_whole;
 use crate::dap::serve_editor;
 use crate::explaining::explain;
+use crate::hardware::probe_file;
 use crate::judge::judge_programs;
 use crate::off_place::show_places;
 use crate::producing::{adapt_file, survey_file};
@@ -111,6 +112,7 @@ fn carry_out<R: Files + Input + Print + Eprint + AllocGlobal>(
         Verb::View => show_page(rt, voice, request),
         Verb::Part => show_part(rt, voice, request),
         Verb::Blocks => blocks_file(rt, voice, request, words),
+        Verb::Probe => probe_file(rt, request),
         Verb::Debug => debug_file(rt, voice, request),
         Verb::Dap => serve_editor(rt),
         Verb::List => list_file(rt, voice, request),

@@ -3,6 +3,7 @@
 
 mod entry;
 mod file_entries;
+mod hardware_entries;
 mod line_entries;
 mod many_entries;
 mod model_entries;
@@ -13,6 +14,9 @@ mod session_entries;
 
 use crate::file_entries::{
     code_entries, image_entries, listing_entries, part_entries, placing_entries,
+};
+use crate::hardware_entries::{
+    hardware_count_entries, hardware_entries, hardware_name_entries, hardware_part_entries,
 };
 use crate::line_entries::{
     result_entries, taken_entries, view_entries, whole_entries, why_entries,
@@ -30,8 +34,8 @@ use crate::run_entries::{arithmetic_entries, device_entries, motion_entries, not
 use crate::session_entries::session_entries;
 pub use entry::Entry;
 
-/// All explanations: of programs, of part files, probe files, models, images and listings, of the debugger, of runs, and of the lines of answers.
-pub fn explanations() -> [&'static [Entry]; 30] {
+/// All explanations: of programs, of part files, probe files, descriptions of what hangs on the head, models, images and listings, of the debugger, of runs, and of the lines of answers.
+pub fn explanations() -> [&'static [Entry]; 34] {
     [
         line_entries(),
         spelling_entries(),
@@ -43,6 +47,10 @@ pub fn explanations() -> [&'static [Entry]; 30] {
         placing_entries(),
         box_entries(),
         box_name_entries(),
+        hardware_entries(),
+        hardware_part_entries(),
+        hardware_name_entries(),
+        hardware_count_entries(),
         model_entries(),
         model_size_entries(),
         model_writing_entries(),

@@ -17,7 +17,7 @@ pub enum Files {
     Programs,
     /// Programs and images.
     Inputs,
-    /// Part files and probe files.
+    /// Part files, probe files and descriptions of what hangs on the head.
     Tables,
     /// Triangle meshes.
     Models,
@@ -91,6 +91,12 @@ const MODEL: Word = Word {
     files: Files::Models,
 };
 
+const HARDWARE: Word = Word {
+    name: "HARDWARE",
+    help: "What hangs on the head, a TOML text",
+    files: Files::Tables,
+};
+
 const IMAGE: Word = Word {
     name: "IMAGE",
     help: "The file that the image is written to",
@@ -115,6 +121,7 @@ pub enum Verb {
     View,
     Part,
     Blocks,
+    Probe,
     Debug,
     Dap,
     List,
@@ -522,6 +529,16 @@ const USAGES: &[Usage] = &[
             Choice::Into,
             Choice::Name,
         ],
+    },
+    Usage {
+        verb: Verb::Probe,
+        name: "probe",
+        brief: "write the probe file of a head, its module and styli",
+        about: "Writes the probe file of what hangs on the head: boxes that hold it as it is turned, at each A and B that is asked for",
+        example: "For example: vcm probe head.toml > probes.toml",
+        words: &[HARDWARE],
+        rest: Rest::Nothing,
+        choices: &[],
     },
     Usage {
         verb: Verb::Debug,

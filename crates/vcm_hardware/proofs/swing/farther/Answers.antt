@@ -1,0 +1,6 @@
+use Rattle.std.proofs.Common.{arith}
+use Rattle.std.proofs.lemmas.Int.{ints, clamps}
+use Rattle.vcm_hardware.proofs.swing.farther.Goals as goal
+
+pub returns-clause-small : goal.returns-clause-small
+returns-clause-small c = omega (arith, ints, clamps, c.max.ensures.value, c.size.ensures.small, c.size-2.ensures.small)

@@ -1,0 +1,14 @@
+pub mod Names
+pub mod Keys
+pub mod Intervals
+pub mod Turned
+pub mod Slabs
+pub mod Swings
+pub mod Boxes
+pub mod Described
+pub mod HardwareFile
+pub mod Pieces
+pub mod Told
+pub mod ProbeFile
+pub mod Holding
+pub mod inner
