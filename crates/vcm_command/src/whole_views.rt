@@ -291,23 +291,26 @@ struct FileNames<'a> {
     part: &'a [u8],
 }
 
-// The picture that is asked for, or its sheet.
-fn picture_of<'a>(
-    request: &Request<'_, '_>,
+// What a view of a run shows: the run, and what is told beside it.
+#[derive(Clone, Copy)]
+struct Shown<'a> {
     files: FileNames<'a>,
     setting: &'a NamedSetting,
-    beside: &Beside,
+    beside: &'a Beside,
     report: &'a Report,
-) -> View<'a> {
-    let untried = report.untried();
+}
+
+// The picture that is asked for, or its sheet.
+fn picture_of<'a>(request: &Request<'_, '_>, shown: Shown<'a>) -> View<'a> {
+    let untried = shown.report.untried();
     if is_sheet(request) {
         View::Sheet(SheetView {
             titles: titles_of(
                 request,
-                files.program,
-                files.part,
-                setting.block_names.as_slice(),
-                beside.lines,
+                shown.files.program,
+                shown.files.part,
+                shown.setting.block_names.as_slice(),
+                shown.beside.lines,
                 untried,
             ),
         })
@@ -320,15 +323,9 @@ fn picture_of<'a>(
 }
 
 // The view that a command shows.
-fn view_of<'a>(
-    request: &Request<'_, '_>,
-    files: FileNames<'a>,
-    setting: &'a NamedSetting,
-    beside: &'a Beside,
-    report: &'a Report,
-) -> View<'a> {
-    let block_names = setting.block_names.as_slice();
-    match (request.verb(), &beside.boxes) {
+fn view_of<'a>(request: &Request<'_, '_>, shown: Shown<'a>) -> View<'a> {
+    let block_names = shown.setting.block_names.as_slice();
+    match (request.verb(), &shown.beside.boxes) {
         (Verb::Trace, _) => View::Trace,
         (Verb::Points, _) => View::Points(Points {
             is_machine: request.has(Choice::Machine),
@@ -338,10 +335,10 @@ fn view_of<'a>(
         (Verb::Margin, _) => View::Margin,
         (Verb::Clearance, Some(boxes)) => View::Clearance(Clearance {
             boxes,
-            untried: report.behind_ways(),
+            untried: shown.report.behind_ways(),
             block_names,
         }),
-        (Verb::Picture, _) => picture_of(request, files, setting, beside, report),
+        (Verb::Picture, _) => picture_of(request, shown),
         _ => View::Result,
     }
 }
@@ -421,7 +418,7 @@ fn print_plain<'a, R: Print + AllocGlobal>(
 // Prints a view of a run of what was given, with the names that the text has, and with what stands around it.
 fn print_given<'a, R: Print + AllocGlobal>(
     rt: &R,
-    view: &View<'_>,
+    view: View<'_>,
     setting: &NamedSetting,
     given: Given,
     names: &[ShortName],
@@ -429,9 +426,9 @@ fn print_given<'a, R: Print + AllocGlobal>(
     input: &'a str,
 ) -> Result<Done, Message<'a>> {
     if names.is_empty() && around.is_empty() {
-        return print_plain(rt, view, setting, given, input);
+        return print_plain(rt, &view, setting, given, input);
     }
-    let (done, text) = text_of_view(rt.alloc(), view, setting, given, names, around, input)?;
+    let (done, text) = text_of_view(rt.alloc(), &view, setting, given, names, around, input)?;
     match print_bytes(rt, &text) {
         Ok(()) => Ok(done),
         Err(message) => Err(message),
@@ -442,39 +439,50 @@ fn print_given<'a, R: Print + AllocGlobal>(
 fn print_shown<'a, R: Print + AllocGlobal>(
     rt: &R,
     request: &Request<'a, '_>,
-    setting: &NamedSetting,
-    beside: &Beside,
+    shown: Shown<'_>,
     given: Given,
     names: &[ShortName],
-    report: &Report,
     around: &Around,
 ) -> Result<Done, Message<'a>> {
-    let input = request.input();
-    let files = FileNames {
-        program: base_name(input),
-        part: base_name(request.part()),
-    };
-    let view = view_of(request, files, setting, beside, report);
-    print_given(rt, &view, setting, given, names, around, input)
+    let view = view_of(request, shown);
+    print_given(
+        rt,
+        view,
+        shown.setting,
+        given,
+        names,
+        around,
+        request.input(),
+    )
 }
 
 /// Prints what was asked for of a run: a view, or the values of variables.
-pub(crate) fn print_asked<'a, R: Print + AllocGlobal>(
+pub(crate) fn print_asked<'a, 'v, R: Print + AllocGlobal>(
     rt: &R,
-    request: &Request<'a, '_>,
-    setting: &NamedSetting,
-    beside: &Beside,
+    request: &'v Request<'a, '_>,
+    setting: &'v NamedSetting,
+    beside: &'v Beside,
     given: Given,
     names: &[ShortName],
-    report: &Report,
+    report: &'v Report,
     around: &Around,
 ) -> Result<Done, Message<'a>> {
+    let input = request.input();
     match names_shown(request) {
-        Some(shown) => {
-            let input = request.input();
-            print_values(rt, &setting.part, given, shown, setting.steps, input)
+        Some(shown) => print_values(rt, &setting.part, given, shown, setting.steps, input),
+        None => {
+            let files = FileNames {
+                program: base_name(input),
+                part: base_name(request.part()),
+            };
+            let shown = Shown {
+                files,
+                setting,
+                beside,
+                report,
+            };
+            print_shown(rt, request, shown, given, names, around)
         }
-        None => print_shown(rt, request, setting, beside, given, names, report, around),
     }
 }
 

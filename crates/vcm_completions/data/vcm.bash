@@ -33,6 +33,7 @@ _vcm_takes() {
     judge) options="--steps --part --probe --place --strict --whole --frame --given --apprch --retrct --search --auto --approach --harmless --table --csv --junit --report" valued="--steps:. --part:toml --probe:toml --place:. --frame:. --given:. --apprch:. --retrct:. --search:. --harmless:. --table:. --junit:. --report:." files=("dmi dmis") is_many=1 ;;
     part) options="--quiet --place --strict" valued="--place:." files=("toml") ;;
     blocks) options="--talk --quiet --unit --turn --at --within --most --near --into --name" valued="--unit:. --turn:. --at:. --within:. --most:. --near:csv --into:toml --name:." files=("stl") ;;
+    probe) options="" valued="" files=("toml") ;;
     debug) options="--talk --quiet --place --strict --whole --frame --given --apprch --retrct --search --auto --approach --harmless --table" valued="--place:. --frame:. --given:. --apprch:. --retrct:. --search:. --harmless:. --table:." files=("dmi dmis vcmi" "toml") ;;
     dap) options="" valued="" files=() ;;
     list) options="--talk --quiet" valued="" files=("dmi dmis vcmi") ;;
@@ -42,7 +43,7 @@ _vcm_takes() {
 }
 _vcm() {
   local word=${COMP_WORDS[COMP_CWORD]} before=${COMP_WORDS[COMP_CWORD-1]} options valued files is_many i place=0
-  local commands="check survey adapt build run why contacts trace margin points clearance picture view place judge part blocks debug dap list asm explain"
+  local commands="check survey adapt build run why contacts trace margin points clearance picture view place judge part blocks probe debug dap list asm explain"
   COMPREPLY=()
   if [ "$COMP_CWORD" -eq 1 ]; then
     COMPREPLY=($(compgen -W "$commands help --help --version" -- "$word"))

@@ -151,7 +151,7 @@ pub under_one : (l : ℤ) → (pos 100000000000000 -ℤ l *ℤ l) ≤ℤ pos 100
 under_one (pos n) = omega (arith, ints)
 under_one (negsuc n) = omega (arith, ints)
 
-square_is : (a : ℤ) → a *ℤ a ≡ pos (unsigned_abs a * unsigned_abs a)
+pub square_is : (a : ℤ) → a *ℤ a ≡ pos (unsigned_abs a * unsigned_abs a)
 square_is (pos n) = refl
 square_is (negsuc n) = refl
 

@@ -1,7 +1,8 @@
 -- The boxes of a part hold it as it is turned.
-use Rattle.std.proofs.Common.{◌≡◌, ℕ, ℤ, pos, negsuc, zero, suc, ◌+◌, ◌*◌, ◌^◌, ◌<◌, ◌≤◌, ◌+ℤ◌, ◌-ℤ◌, ◌*ℤ◌, ◌≤ℤ◌, neg_ℤ, Bool, true, false, List, [], ◌∷◌, ◌++◌, length, Option, Some, None, arith, ap, refl, sym, subst, ◌∙◌, add-one}
-use Rattle.std.specs.Prelude.{unsigned_abs, int_lt, int_eq, IfSome, Contains, if◌then◌else◌}
+use Rattle.std.proofs.Common.{◌≡◌, ℕ, ℤ, pos, negsuc, zero, suc, ◌+◌, ◌*◌, ◌/◌, ◌^◌, ◌<◌, ◌≤◌, ◌+ℤ◌, ◌-ℤ◌, ◌*ℤ◌, ◌≤ℤ◌, neg_ℤ, Bool, true, false, [], ◌∷◌, Option, Some, None, arith, ap, refl, sym, subst, ◌∙◌, add-one}
+use Rattle.std.specs.Prelude.{unsigned_abs, int_lt, IfSome, Contains, if◌then◌else◌}
 use Rattle.std.specs.Int.{int_div_euclid, int_min, int_max}
+use Rattle.std.specs.Ordering.{int_eq}
 use Rattle.std.specs.Option.{option_to_list}
 use Rattle.std.proofs.Math.Nat.{mul-div_cancel_left}
 use Rattle.std.proofs.lemmas.Int.{ints, clamps, by_lt_z}
@@ -22,14 +23,14 @@ use Rattle.vcm_hardware.specs.declared.cylinder.Range.{Range}
 use Rattle.vcm_hardware.specs.declared.cylinder.Leaning.{Leaning}
 use Rattle.vcm_hardware.specs.declared.cylinder.Side.{Side}
 use Rattle.vcm_hardware.specs.declared.cylinder.Slabs.{Slabs}
-use Rattle.vcm_hardware.specs.Intervals.{floor_one, ceil_one, half_up, root_up, middle, wide, least_size, less}
+use Rattle.vcm_hardware.specs.Intervals.{half_up, root_up, middle, wide, least_size, less}
 use Rattle.vcm_hardware.specs.Turned.{towards, coordinate_on, column, turned}
-use Rattle.vcm_hardware.specs.Slabs.{half_width, hull, one, range_on, outward, slope_width, planes_of, nearest, quotient, planes, planes_back, side_on, slab_count, cut_at, leans, both, between, with_room, reach, block_along, slab_of, slabs_behind, cylinder_boxes}
+use Rattle.vcm_hardware.specs.Slabs.{half_width, hull, one, range_on, outward, planes_of, nearest, quotient, planes, planes_back, side_on, cut_at, leans, both, between, with_room, reach, block_along, slab_of, slabs_behind, cylinder_boxes}
 use Rattle.vcm_hardware.specs.inner.Sizes.{IsUnit}
-use Rattle.vcm_hardware.specs.Holding.{place_on, over_axes, IsIn, IsTurn, rows_give, way_from, IsAbout, turned_place, LiesIn, IsCovered}
+use Rattle.vcm_hardware.specs.Holding.{place_on, over_axes, IsIn, IsTurn, rows_give, corner_on, way_from, IsAbout, turned_place, LiesIn, IsCovered}
 use Rattle.vcm_hardware.proofs.Floors.{square_is}
 use Rattle.vcm_hardware.proofs.Roots.{square_le}
-use Rattle.vcm_hardware.proofs.Products.{mul-sub, mul-zero, swap, scaled_le, unscaled_le, trans, min_holds, max_holds, product_low, product_high}
+use Rattle.vcm_hardware.proofs.Products.{mul-sub, swap, unscaled_le, trans, min_holds, max_holds, product_low, product_high}
 use Rattle.vcm_hardware.proofs.Widths.{held, root_holds, root_size, half_holds}
 use Rattle.vcm_hardware.proofs.Turns.{stretch_is, stretch_squares, lean, lean_is, lean_squares, way_between, turned_in, in_less, least_in, floor_in, ceil_in}
 
@@ -354,10 +355,24 @@ InSides b y X sides = IsInSide b (y Y) (y X) (sides Y) × IsInSide b (y Z) (y X)
 InSides b y Y sides = IsInSide b (y X) (y Y) (sides X) × IsInSide b (y Z) (y Y) (sides Z)
 InSides b y Z sides = IsInSide b (y X) (y Z) (sides X) × IsInSide b (y Y) (y Z) (sides Y)
 
-abbrev side_of : Slabs → Along → Side
+abbrev pub side_of : Slabs → Along → Side
 side_of c X = c.x
 side_of c Y = c.y
 side_of c Z = c.z
+
+-- what holds on each axis
+pub on_axes : (P : Along → Type 0) → P X → P Y → P Z → (i : Along) → P i
+on_axes P x y z X = x
+on_axes P x y z Y = y
+on_axes P x y z Z = z
+
+-- what is left between two ends on each axis is a box, in which the place lies
+in_point : (b : ℕ) (y : Along → ℤ) (p q r : Range) → IsIn b (y X) (span p) → IsIn b (y Y) (span q) → IsIn b (y Z) (span r)
+    → LiesIn (record { low = point p.low q.low r.low; high = point p.high q.high r.high }) b y
+in_point b y p q r on_x on_y on_z = record {
+  low = on_axes (λ i. (pos b *ℤ corner_on (point p.low q.low r.low) i) ≤ℤ y i) on_x.low on_y.low on_z.low;
+  high = on_axes (λ i. y i ≤ℤ (pos b *ℤ corner_on (point p.high q.high r.high) i)) on_x.high on_y.high on_z.high;
+}
 
 -- the box of a slab between whose ends it lies
 in_block : (b : ℕ) → 0 < b → (y : Along → ℤ) (main : Along) (c : Slabs) (z : Range) → IsIn b (y main) (span z) → InSides b y main (side_of c)
@@ -367,30 +382,21 @@ in_block b some y X c z there sides =
     let q = in_reach b some (y Z) (y X) z there c.z sides.1 in (
       record { low = point z.low r.0.low q.0.low; high = point z.high r.0.high q.0.high },
       rw (r.1, q.1) refl,
-      record {
-        low = λ i. elim i [ X ↦ there.low | Y ↦ r.2.low | Z ↦ q.2.low ];
-        high = λ i. elim i [ X ↦ there.high | Y ↦ r.2.high | Z ↦ q.2.high ];
-      },
+      in_point b y z r.0 q.0 there r.2 q.2,
     )
 in_block b some y Y c z there sides =
     let r = in_reach b some (y X) (y Y) z there c.x sides.0 in
     let q = in_reach b some (y Z) (y Y) z there c.z sides.1 in (
       record { low = point r.0.low z.low q.0.low; high = point r.0.high z.high q.0.high },
       rw (r.1, q.1) refl,
-      record {
-        low = λ i. elim i [ X ↦ r.2.low | Y ↦ there.low | Z ↦ q.2.low ];
-        high = λ i. elim i [ X ↦ r.2.high | Y ↦ there.high | Z ↦ q.2.high ];
-      },
+      in_point b y r.0 z q.0 r.2 there q.2,
     )
 in_block b some y Z c z there sides =
     let r = in_reach b some (y X) (y Z) z there c.x sides.0 in
     let q = in_reach b some (y Y) (y Z) z there c.y sides.1 in (
       record { low = point r.0.low q.0.low z.low; high = point r.0.high q.0.high z.high },
       rw (r.1, q.1) refl,
-      record {
-        low = λ i. elim i [ X ↦ r.2.low | Y ↦ q.2.low | Z ↦ there.low ];
-        high = λ i. elim i [ X ↦ r.2.high | Y ↦ q.2.high | Z ↦ there.high ];
-      },
+      in_point b y r.0 q.0 z r.2 q.2 there,
     )
 
 -- a number lies between two of the cuts that lead from below it to above it

@@ -1,66 +1,49 @@
 -- Each point of a part that is turned lies in one of its boxes.
-use Rattle.std.proofs.Common.{◌≡◌, ℕ, ℤ, pos, negsuc, zero, suc, ◌+◌, ◌*◌, ◌<◌, ◌≤◌, ◌+ℤ◌, ◌-ℤ◌, ◌*ℤ◌, ◌≤ℤ◌, neg_ℤ, Bool, true, false, List, [], ◌∷◌, arith, ap, refl, sym, subst, ◌∙◌}
-use Rattle.std.specs.Prelude.{unsigned_abs, int_le, int_lt, get_or, not, ◌&&◌, ◌||◌, if◌then◌else◌}
-use Rattle.std.specs.Int.{int_div_euclid, int_rem_euclid, int_min, int_max}
+use Rattle.std.proofs.Common.{◌≡◌, ℕ, ℤ, pos, negsuc, zero, suc, ◌*◌, ◌<◌, ◌≤◌, ◌-ℤ◌, ◌*ℤ◌, ◌≤ℤ◌, neg_ℤ, Bool, true, false, List, [], ◌∷◌, arith, refl, sym}
+use Rattle.std.specs.Prelude.{unsigned_abs, nat_le, int_le, get_or, not, ◌&&◌, if◌then◌else◌}
+use Rattle.std.specs.Int.{int_div_euclid, int_rem_euclid, int_max}
+use Rattle.std.specs.List.{list_all}
 use Rattle.std.specs.Ordering.{int_eq}
 use Rattle.std.proofs.lemmas.Int.{ints, clamps}
+use Rattle.std.proofs.lemmas.Bool.{and_parts, leb-true}
 use Rattle.std.proofs.lemmas.Bool.Decides.{Decides-int_eq}
 use Rattle.vcm_hardware.specs.declared.interval.Ratio.{Ratio}
 use Rattle.vcm_hardware.specs.declared.angle.Along.{Along}
 use Rattle.vcm_hardware.specs.declared.angle.Along.TheVariants.{X, Y, Z}
-use Rattle.vcm_hardware.specs.declared.angle.Turning.{Turning}
 use Rattle.vcm_hardware.specs.declared.description.Place.{Place}
 use Rattle.vcm_hardware.specs.declared.description.Cylinder.{Cylinder}
-use Rattle.vcm_hardware.specs.declared.cylinder.Seen.{Seen}
 use Rattle.vcm_hardware.specs.declared.cylinder.Side.{Side}
-use Rattle.vcm_hardware.specs.declared.cylinder.Slabs.{Slabs}
 use Rattle.vcm_hardware.specs.inner.Sizes.{IsUnit}
 use Rattle.vcm_hardware.specs.Intervals.{floor_one, ceil_one, least_of, greatest_of, product, negative, wide, least_size}
-use Rattle.vcm_hardware.specs.Turned.{cosines, from, just, quarter_cosine, cosine_within, cosine, sine, towards, column, turning_by}
-use Rattle.vcm_hardware.specs.Slabs.{axis_between, seen_from, range_on, outward, side_on, aside, slab_count, over_up, slabs_of}
+use Rattle.vcm_hardware.specs.Turned.{cosines, just, quarter_cosine, cosine_within, cosine, sine, towards, column, turning_by}
+use Rattle.vcm_hardware.specs.Slabs.{axis_between, seen_from, side_on, aside, over_up, slabs_of}
 use Rattle.vcm_hardware.specs.HardwareFile.{one_of_three, differs_once}
 use Rattle.vcm_hardware.specs.Boxes.{part_boxes}
 use Rattle.vcm_hardware.specs.Holding.{rows_give, IsTurn, IsAbout, turned_place, IsCovered, PartsAreHeld}
 use Rattle.vcm_hardware.proofs.Floors.{unit_small, four_least, four_greatest}
-use Rattle.vcm_hardware.proofs.Held.{AreAside, IsInSide, InSides, side_of, in_outward, in_side, in_slabs}
+use Rattle.vcm_hardware.proofs.Held.{AreAside, IsInSide, InSides, side_of, on_axes, in_outward, in_side, in_slabs}
 
 -- ---- the directions of a head are of length 1
 
-abbrev AreUnits : List Ratio → Type 0
-AreUnits [] = ⊤
-AreUnits (x ∷ xs) = IsUnit x × AreUnits xs
+-- whether the ends of a ratio are at most 1
+abbrev is_unit : Ratio → Bool
+is_unit x = nat_le (unsigned_abs x.low) 10000000 && nat_le (unsigned_abs x.high) 10000000
 
-unit_at : (xs : List Ratio) (k : ℕ) (d : Ratio) → AreUnits xs → IsUnit d → IsUnit (get_or xs k d)
+unit_if : (x : Ratio) → is_unit x ≡ true → IsUnit x
+unit_if x h =
+    let both = and_parts (nat_le (unsigned_abs x.low) 10000000) (nat_le (unsigned_abs x.high) 10000000) h in
+    record { low = leb-true (unsigned_abs x.low) 10000000 both.0; high = leb-true (unsigned_abs x.high) 10000000 both.1 }
+
+unit_at : (xs : List Ratio) (k : ℕ) (d : Ratio) → list_all is_unit xs ≡ true → IsUnit d → IsUnit (get_or xs k d)
 unit_at [] k d all last = last
-unit_at (x ∷ xs) zero d all last = all.0
-unit_at (x ∷ xs) (suc k) d all last = unit_at xs k d all.1 last
+unit_at (x ∷ xs) zero d all last = unit_if x (and_parts (is_unit x) (list_all is_unit xs) all).0
+unit_at (x ∷ xs) (suc k) d all last = unit_at xs k d (and_parts (is_unit x) (list_all is_unit xs) all).1 last
 
-just_unit : (n : ℕ) → n ≤ 10000000 → IsUnit (just n)
-just_unit n h = record { low = h; high = h }
-
-from_unit : (n : ℕ) → n + 1 ≤ 10000000 → IsUnit (from n)
-from_unit n h = record { low = omega (arith, h); high = omega (arith, h) }
-
-cosines_are : AreUnits cosines
-cosines_are = (
-  just_unit 10000000 (omega arith),
-  from_unit 9914448 (omega arith),
-  from_unit 9659258 (omega arith),
-  from_unit 9238795 (omega arith),
-  from_unit 8660254 (omega arith),
-  from_unit 7933533 (omega arith),
-  from_unit 7071067 (omega arith),
-  from_unit 6087614 (omega arith),
-  from_unit 5000000 (omega arith),
-  from_unit 3826834 (omega arith),
-  from_unit 2588190 (omega arith),
-  from_unit 1305261 (omega arith),
-  just_unit 0 (omega arith),
-  tt,
-)
+none_unit : IsUnit (just 0)
+none_unit = unit_if (just 0) refl
 
 quarter_unit : (k : ℕ) → IsUnit (quarter_cosine k)
-quarter_unit k = unit_at cosines k (just 0) cosines_are (just_unit 0 (omega arith))
+quarter_unit k = unit_at cosines k (just 0) refl none_unit
 
 negative_one : (z : ℤ) → unsigned_abs z ≤ 10000000 → unsigned_abs (neg_ℤ z) ≤ 10000000
 negative_one z h = omega (arith, ints)
@@ -109,7 +92,7 @@ product_unit x y p q =
 turning_units : (a b : ℤ) (k i : Along) → IsUnit (towards (column (turning_by a b) k) i)
 turning_units a b X X = cosine_unit b
 turning_units a b X Y = cosine_unit (pos 12 -ℤ b)
-turning_units a b X Z = just_unit 0 (omega arith)
+turning_units a b X Z = none_unit
 turning_units a b Y X = negative_unit (product (sine b) (cosine a)) (product_unit (sine b) (cosine a) (cosine_unit (pos 12 -ℤ b)) (cosine_unit a))
 turning_units a b Y Y = product_unit (cosine b) (cosine a) (cosine_unit b) (cosine_unit a)
 turning_units a b Y Z = negative_unit (sine a) (cosine_unit (pos 12 -ℤ a))
@@ -173,7 +156,7 @@ module _ (a b : ℤ) (tip : Place) (part : Cylinder) (once : differs_once part.f
       (counted ((c.range.high -ℤ c.range.low) *ℤ aside seen.direction c.main) (int_max (seen.step *ℤ least_size (wide (towards seen.direction c.main))) (pos 1)))
       (in_outward (turning_by a b) n m turn (axis_between part.from part.to) part tip s (unsigned_abs part.diameter) p about (aside_of part.from part.to once)
       (natural part.diameter round) c.main)
-      (sides c.main (side_of c) (λ i. elim i [ X ↦ refl | Y ↦ refl | Z ↦ refl ]))
+      (sides c.main (side_of c) (on_axes (λ i. side_of c i ≡ side_on seen c.main i) refl refl refl))
 
 pub parts_are_held : PartsAreHeld
 parts_are_held a b tip part once round n m turn s p about = part_is_held a b tip part once round n m turn s p about

@@ -1,13 +1,13 @@
 -- Products of whole numbers.
-use Rattle.std.proofs.Common.{◌≡◌, ℕ, ℤ, pos, negsuc, zero, suc, ◌+◌, ◌*◌, ◌<◌, ◌≤◌, ◌+ℤ◌, ◌-ℤ◌, ◌*ℤ◌, ◌≤ℤ◌, Bool, true, false, neg_ℤ, arith, ap, refl, sym, subst, ◌∙◌}
-use Rattle.std.specs.Prelude.{unsigned_abs, int_lt, cond}
+use Rattle.std.proofs.Common.{◌≡◌, ℕ, ℤ, pos, negsuc, ◌+◌, ◌*◌, ◌<◌, ◌≤◌, ◌+ℤ◌, ◌-ℤ◌, ◌*ℤ◌, ◌≤ℤ◌, Bool, true, false, neg_ℤ, arith, ap, sym, subst, ◌∙◌}
+use Rattle.std.specs.Prelude.{int_lt, cond}
 use Rattle.std.specs.Int.{int_min, int_max}
-use Rattle.std.proofs.Math.Nat.{mul-le-mul_left, mul-le-mul_right}
+use Rattle.std.proofs.Math.Nat.{mul-le-mul_left}
 use Rattle.std.proofs.Math.IntN.{*ℤ_comm}
 use Rattle.std.proofs.lemmas.Int.{ints, clamps, by_lt_z}
 use borrow.Author.Differences.{up, down}
 use lib.Signed.{◌<ℤ◌}
-use Rattle.vcm_num.proofs.Ring.{mul-add, mul-assoc, mul-add_three}
+use Rattle.vcm_num.proofs.Ring.{mul-add, mul-assoc}
 
 -- ---- the ring of whole numbers
 

@@ -1,10 +1,10 @@
 -- Places and directions as a turn takes them, and the intervals in which they lie.
-use Rattle.std.proofs.Common.{◌≡◌, ℕ, ℤ, pos, negsuc, ◌+◌, ◌*◌, ◌≤◌, ◌<◌, ◌+ℤ◌, ◌-ℤ◌, ◌*ℤ◌, ◌≤ℤ◌, neg_ℤ, arith, ap, refl, sym, subst, ◌∙◌}
+use Rattle.std.proofs.Common.{◌≡◌, ℕ, ℤ, pos, negsuc, ◌+◌, ◌*◌, ◌≤◌, ◌+ℤ◌, ◌-ℤ◌, ◌*ℤ◌, ◌≤ℤ◌, neg_ℤ, arith, ap, refl, sym, subst, ◌∙◌}
 use Rattle.std.specs.Prelude.{unsigned_abs}
-use Rattle.std.specs.Int.{int_min, int_max, int_div_euclid}
+use Rattle.std.specs.Int.{int_min, int_max}
 use Rattle.std.proofs.Math.IntN.{*ℤ_comm}
 use Rattle.std.proofs.lemmas.Int.{ints, clamps}
-use Rattle.vcm_num.proofs.Ring.{mul-add, mul-assoc, mul-add_three}
+use Rattle.vcm_num.proofs.Ring.{mul-assoc, mul-add_three}
 use Rattle.vcm_hardware.specs.declared.interval.Ratio.{Ratio}
 use Rattle.vcm_hardware.specs.declared.interval.Interval.{Interval}
 use Rattle.vcm_hardware.specs.declared.angle.Along.{Along}
@@ -15,7 +15,7 @@ use Rattle.vcm_hardware.specs.Intervals.{floor_one, ceil_one, scaled, sum_of, wi
 use Rattle.vcm_hardware.specs.Turned.{row, coordinate_on, turned}
 use Rattle.vcm_hardware.specs.Holding.{place_on, over_axes, IsIn, IsTurn}
 use Rattle.vcm_hardware.proofs.Floors.{square_is}
-use Rattle.vcm_hardware.proofs.Products.{mul-sub, sub-mul, mul-zero, mul-neg, swap, scaled_le, unscaled_le, trans, min_left, min_right, max_left, max_right, min_holds, max_holds, product_low, product_high}
+use Rattle.vcm_hardware.proofs.Products.{mul-sub, sub-mul, mul-zero, mul-neg, swap, scaled_le, unscaled_le, trans, max_holds, product_low, product_high}
 
 -- ---- sums over the axes
 
