@@ -219,7 +219,9 @@ fn show_running<R: Print + Eprint + AllocGlobal>(
             let input = request.input();
             print_page(rt, setting, beside, given, names, &report, frames, input)
         }
-        _ => print_asked(rt, request, setting, beside, given, names, &report, &around),
+        _ => print_asked(
+            rt, &*request, &*setting, &*beside, given, names, &report, &around,
+        ),
     };
     match printed {
         Ok(done) => {
