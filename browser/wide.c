@@ -59,3 +59,9 @@ natural __udivti3(natural dividend, natural divisor) {
   }
   return quotient;
 }
+
+// The quotient of numbers with a sign, cut off towards 0: that of their sizes, below 0 where one of the two is.
+wide __divti3(wide dividend, wide divisor) {
+  natural quotient = __udivti3(dividend < 0 ? -(natural)dividend : (natural)dividend, divisor < 0 ? -(natural)divisor : (natural)divisor);
+  return (dividend < 0) != (divisor < 0) ? (wide)-quotient : (wide)quotient;
+}
