@@ -16,6 +16,3 @@ mod splitting;
 
 pub use readings::{borrowed_lines, compared_lines};
 pub use settling::settle;
-
-#[cfg(test)]
-mod tests;

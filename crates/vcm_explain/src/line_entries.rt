@@ -101,7 +101,7 @@ the statement of that line names a frame, `--frame` says where it lies.",
     },
 ];
 
-const WHOLE: [Entry; 5] = [
+const WHOLE: [Entry; 6] = [
     Entry {
         keys: &["begins elsewhere"],
         text: "begins elsewhere
@@ -121,7 +121,15 @@ another one.",
         keys: &["frame"],
         text: "frame
 A line of `vcm why --whole`: the frame that is current where the run stops, and the line
-at which it was made current. The places of the text are in it.",
+at which it was made current. The places of the text are in it. In a session on such a
+text, what `known` answers: which frame is current, whether the mode is a programmed one
+and the probe's place the machine's, and which variables aren't known.",
+    },
+    Entry {
+        keys: &["all known"],
+        text: "all known
+In a session on a text with `--whole`: frame, mode, table and place are those of the
+machine where the session stands, and each variable has its value.",
     },
     Entry {
         keys: &["usage: the text never asks for", "the text never asks for"],

@@ -18,6 +18,3 @@ pub use choosing::choose;
 pub use texts::given_texts;
 pub use tips::{OtherTip, Width, other_tips};
 pub use unused::first_unused;
-
-#[cfg(test)]
-mod tests;

@@ -50,7 +50,7 @@ use Rattle.vcm_templates.specs.declared.templates.TheConstants.{NEAR, FAR}
 use Rattle.vcm_templates.specs.Besides.{carries_bounds, beside_of, at_most}
 use Rattle.vcm_templates.specs.Carried.{carried_term, kept_place}
 use Rattle.vcm_templates.specs.Expressions.{number, truth, both, has_form}
-use Rattle.vcm_templates.specs.Templates.{asks_variable, asks_piece, asks_variables, asks_formula, asks_near, asks_within, asks_value, asks_all, is_carried, declares_bound, sets_bound, goes, gone, untried_point, touched, lose_epoch, lose_places, lose_all, new_frame, saves_frame, frame_gone}
+use Rattle.vcm_templates.specs.Templates.{asks_variable, asks_piece, asks_variables, asks_formula, asks_near, asks_within, asks_value, asks_all, is_carried, declares_bound, sets_bound, sets_near, goes, gone, untried_point, touched, lose_epoch, lose_places, lose_all, new_frame, saves_frame, frame_gone}
 use Rattle.vcm_kept.specs.declared.effects.Effects.{Effects}
 use Rattle.vcm_kept.specs.declared.text.Text.{Text}
 use Rattle.vcm_kept.specs.Effects.{where_may, lose_motions, lose_modes, lose_tables, lose_scans, lose_units, lose_machine, lose_sensor, other_tip, lose_settings, lose_frames, lose_kept, lose_planes, lose_index, lose_state, lose_saved, lose_effects, lose_block}
@@ -134,6 +134,10 @@ module _ (test : ℕ → Bool) (line : ℕ) (h : test line ≡ true) where
   sets_bound_on : (vs : List Variable) (k : Kind) (i : ℕ) (e : Source) → are_on test (sets_bound line vs k i e) ≡ true
   unfolding sets_bound
   sets_bound_on vs k i e = either test (is_carried vs k) _ _ (rw h) refl
+
+  sets_near_on : (vs : List Variable) (k : Kind) (i : ℕ) → are_on test (sets_near line vs k i) ≡ true
+  unfolding sets_near
+  sets_near_on vs k i = either test (is_carried vs k) _ _ (rw h) refl
 
   -- ---- motions
 
@@ -738,7 +742,7 @@ module _ (test : ℕ → Bool) (line : ℕ) (h : test line ≡ true) where
   obtains_here_on : (e : ℕ) (vs : List Variable) (t : Target) (side : Side) (l : List ℕ) (word : FeatureWord) (i j : ℕ)
       → are_on test (obtains_here line e vs t side l word i j) ≡ true
   unfolding obtains_here
-  obtains_here_on e vs t side l word i j = rw h (joined test _ _ (sets_bound_on vs kinds.Real i (Plain (number (pos 0)))) (rw h))
+  obtains_here_on e vs t side l word i j = rw h (joined test _ _ (sets_near_on vs kinds.Real i) (rw h))
 
   obtains_at_on : (e : ℕ) (vs : List Variable) (t : Target) (side : Side) (l : List ℕ) (word : FeatureWord) (i : ℕ) (k : Option Kind) (j : Option ℕ)
       → are_on test (obtains_at line e vs t side l word i k j) ≡ true

@@ -67,7 +67,7 @@ use Rattle.vcm_templates.specs.declared.carried.TheConstants.{IMPLICIT, FEATURES
 use Rattle.vcm_templates.specs.Carried.{carried_target, carried_name, first_carried, last_carried, known_first, carried_term, item_term, item_name}
 use Rattle.vcm_templates.specs.Expressions.{number, truth, both, is_current, are_current, knows_frame, in_frame, has_form, is_found}
 use Rattle.vcm_events.specs.Joined.{pair, whole_of}
-use Rattle.vcm_templates.specs.Templates.{stands, remarks, set, set_item, lose, know, raise, declare_item, untried, asks, asks_all, where_known, elsewhere, ends, goes, gone, untried_point, touched, lose_all, to_the_end, lose_frame, saves_frame, new_frame, frame_gone, asks_value, is_carried, declares_bound, sets_bound}
+use Rattle.vcm_templates.specs.Templates.{stands, remarks, set, set_item, lose, know, raise, declare_item, untried, asks, asks_all, where_known, elsewhere, ends, goes, gone, untried_point, touched, lose_all, to_the_end, lose_frame, saves_frame, new_frame, frame_gone, asks_value, is_carried, declares_bound, sets_bound, sets_near}
 use Rattle.vcm_templates.specs.declared.templates.TheConstants.{FAR}
 
 -- ---- what stands above
@@ -557,11 +557,11 @@ abbrev pub is_here : Side → ℕ → Source
 is_here Nominal i = is_nominal i
 is_here Actual i = is_measured i
 
--- OBTAIN for the REAL at an index, of the feature at an index
+-- OBTAIN for the REAL at an index, of the feature at an index: what a feature says may lie as far from the machine's as a length may
 unfoldable pub obtains_here : ℕ → ℕ → List Variable → Target → Side → List ℕ → FeatureWord → ℕ → ℕ → List Guarded
 obtains_here line e vs t side l word i j =
     asks line (both (is_here side j) length_asks) ∷ where_known line ∷ stands line e (form.Query t side l word)
-    ∷ (sets_bound line vs kinds.Real i (Plain (number (pos 0))) ++ know_variable line i ∷ elsewhere line ∷ lose_variable line i ∷ ends line ∷ [])
+    ∷ (sets_near line vs kinds.Real i ++ know_variable line i ∷ elsewhere line ∷ lose_variable line i ∷ ends line ∷ [])
 
 -- OBTAIN for the variable at an index, of this kind, of the feature at an index
 abbrev pub obtains_at : ℕ → ℕ → List Variable → Target → Side → List ℕ → FeatureWord → ℕ → Option Kind → Option ℕ → List Guarded

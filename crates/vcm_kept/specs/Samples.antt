@@ -32,7 +32,7 @@ use Rattle.vcm_templates.specs.declared.lengths.Kept.TheVariants as kept
 use Rattle.vcm_templates.specs.declared.lengths.Length.TheVariants as lengths
 use Rattle.vcm_templates.specs.Carried.{carried_target, carried_term, item_term, length_target, length_term}
 use Rattle.vcm_templates.specs.Expressions.{number, truth, both, is_known, is_current, are_current, knows_frame}
-use Rattle.vcm_templates.specs.Templates.{stands, remarks, raise, set, set_item, lose, know, untried, asks, asks_variables, asks_within, asks_all, where_known, elsewhere, ends, goes, gone, untried_point, lose_frame, new_frame, frame_gone, sets_bound}
+use Rattle.vcm_templates.specs.Templates.{stands, remarks, raise, set, set_item, lose, know, untried, asks, asks_variables, asks_within, asks_all, where_known, elsewhere, ends, goes, gone, untried_point, lose_frame, new_frame, frame_gone, sets_bound, sets_near}
 use Rattle.vcm_templates.specs.Exact.{folded}
 use Rattle.vcm_kept.specs.declared.text.Text.{Text}
 use Rattle.vcm_kept.specs.Effects.{no_effects, other_tip}
@@ -98,7 +98,7 @@ value_lost = refl
 pub obtained : puts (form.Query (as_read (codes "V")) Actual (codes "A") words.X)
     ≡ asks 9 (both (is_measured 0) length_asks) ∷ where_known 9 ∷ stands 9 0 (form.Query (as_read (codes "V")) Actual (codes "A") words.X)
     ∷ know_variable 9 0 ∷ elsewhere 9 ∷ lose_variable 9 0 ∷ ends 9 ∷ []
-unfolding obtains_here sets_bound
+unfolding obtains_here sets_near
 obtained = refl
 
 -- ---- motions

@@ -21,8 +21,8 @@ use vcm_program::Titles;
 use vcm_remarks::Remark;
 use vcm_spec::{FeatureWord, Source};
 use vcm_templates::{
-    Carried, Guarded, ask, both, elsewhere, end, knows_frame, number, remark, set_bound, stand,
-    truth, where_known,
+    Carried, Guarded, ask, both, elsewhere, end, knows_frame, remark, set_near, stand, truth,
+    where_known,
 };
 
 // The frame in which a feature's value is known is the current one.
@@ -56,8 +56,7 @@ fn obtain_here(
     ask(out, line, both(alloc, &here, &length_asks(alloc)?)?)?;
     where_known(out, line)?;
     stand(out, line, expansion, Form::Query(target, side, label, word))?;
-    let exact = Expr::leaf(number(0));
-    set_bound(alloc, out, line, names, Kind::Real, index, &exact)?;
+    set_near(out, line, names, Kind::Real, index)?;
     otherwise_lose(out, line, index)
 }
 

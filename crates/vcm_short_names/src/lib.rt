@@ -18,6 +18,3 @@ mod short;
 
 pub use lengthened::{lengthen_names, long_name, long_out};
 pub use short::{ShortName, Shortened, shorten_names};
-
-#[cfg(test)]
-mod tests;

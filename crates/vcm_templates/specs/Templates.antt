@@ -30,6 +30,8 @@ use Rattle.vcm_templates.specs.declared.besides.Beside.{Beside}
 use Rattle.vcm_templates.specs.declared.templates.TheConstants.{NEAR}
 use Rattle.vcm_templates.specs.Besides.{carries_bounds, beside_of, at_most, bound_value}
 use Rattle.vcm_events.specs.Joined.{pair}
+use Rattle.vcm_num.specs.declared.number.Literal.TheVariants.{Thousandths}
+use Rattle.vcm_expr.specs.declared.expression.Term.TheVariants.{Number}
 
 -- ---- single statements
 
@@ -85,6 +87,10 @@ bound_in None = bound_value Nothing
 -- the variable of this kind at an index lies so far from the machine's as this value
 unfoldable pub sets_bound : ℕ → List Variable → Kind → ℕ → Source → List Guarded
 sets_bound line vs k i e = if is_carried vs k then set_item line items.Beside i (bound_in (beside_of vs e)) ∷ [] else []
+
+-- the variable of this kind at an index lies as far from the machine's as a length may
+unfoldable pub sets_near : ℕ → List Variable → Kind → ℕ → List Guarded
+sets_near line vs k i = if is_carried vs k then set_item line items.Beside i (Plain (Number (Thousandths NEAR))) ∷ [] else []
 
 -- ---- motions
 

@@ -23,6 +23,6 @@ pub use lengths::{Kept, Length};
 pub use templates::{
     FAR, ask, ask_all, ask_value, declare_bound, declare_item, elsewhere, end, frame_gone, go,
     go_to_end, gone, is_carried, know, lose, lose_all, lose_frame, lose_item, new_frame, raise,
-    remark, save_frame, set, set_bound, set_item, set_number, stand, touched, untried,
+    remark, save_frame, set, set_bound, set_item, set_near, set_number, stand, touched, untried,
     untried_point, where_known,
 };

@@ -8,7 +8,7 @@ ghost use Rattle.vcm_expr.specs.Source.{Plain};
 ghost use Rattle.vcm_templates.specs.Carried.{carried_target, item_target};
 ghost use Rattle.vcm_events.specs.Joined.{pair};
 ghost use Rattle.vcm_templates.specs.Expressions.{number};
-ghost use Rattle.vcm_templates.specs.Templates.{stands, remarks, set, set_item, lose, know, raise, declare_item, untried, asks, asks_variable, asks_piece, asks_variables, asks_formula, asks_near, asks_within, asks_value, asks_all, is_carried, declares_bound, bound_in, sets_bound, where_known, elsewhere, ends, goes, gone, untried_point, touched, lose_epoch, lose_places, lose_all, to_the_end, lose_frame, new_frame, saves_frame, frame_gone};
+ghost use Rattle.vcm_templates.specs.Templates.{stands, remarks, set, set_item, lose, know, raise, declare_item, untried, asks, asks_variable, asks_piece, asks_variables, asks_formula, asks_near, asks_within, asks_value, asks_all, is_carried, declares_bound, bound_in, sets_bound, sets_near, where_known, elsewhere, ends, goes, gone, untried_point, touched, lose_epoch, lose_places, lose_all, to_the_end, lose_frame, new_frame, saves_frame, frame_gone};
 
 use crate::besides::{Beside, Formula, at_most, beside_of, bound_value, carries_bounds};
 use crate::carried::{Carried, FEATURES_STEP, IMPLICIT, Item, UNKNOWN_SENSOR};
@@ -20,7 +20,7 @@ use vcm_expr::{BinaryOp, Expr, Names, Piece, Relation, Term};
 use vcm_forms::{Form, Statement, Target};
 use vcm_items::Name;
 use vcm_macro::Placed;
-use vcm_num::{Items, Kind, NoMemory};
+use vcm_num::{Items, Kind, Literal, NoMemory};
 use vcm_remarks::{Cause, Remark};
 
 /// How many thousandths a length may lie from the machine's.
@@ -397,6 +397,23 @@ pub fn set_bound(
     }
     let bound = bound_in(beside_of(alloc, names, value)?);
     set_item(out, line, Item::Beside, index, bound)
+}
+
+/// The variable of this kind at an index lies as far from the machine's as a length may.
+pub fn set_near(
+    out: &mut Vec<Guarded>,
+    line: u32,
+    names: &Names,
+    kind: Kind,
+    index: u16,
+) -> Result<(), NoMemory>
+    ensures { OnOk result (out.new.items ≡ out.old.items ++ sets_near line names.now kind index) }
+{
+    if !is_carried(names, kind) {
+        return Ok(());
+    }
+    let near = Expr::leaf(Term::Number(Literal::Thousandths(NEAR)));
+    set_item(out, line, Item::Beside, index, near)
 }
 
 /// Where it is known.

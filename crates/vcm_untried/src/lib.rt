@@ -31,6 +31,3 @@ pub use rows::Row;
 pub use spans::Span;
 pub use telling::Told;
 pub use ways::{behind_ways, untried_motions};
-
-#[cfg(test)]
-mod tests;

@@ -1,8 +1,8 @@
 //! Small texts with long names.
 
-use crate::{ShortName, shorten_names};
 use std::alloc::Global;
 use vcm_num::is;
+use vcm_short_names::{ShortName, shorten_names};
 
 // Whether a text becomes another.
 fn becomes(alloc: Global, text: &[u8], other: &[u8]) -> Option<bool> {

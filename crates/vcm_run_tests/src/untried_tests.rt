@@ -1,9 +1,9 @@
 //! Programs whose remarks are counted.
 
-use crate::{count_remarks, untried_text, was_all_tried};
 use std::alloc::Global;
 use vcm_remarks::{Cause, NumberedRemark, Remark};
 use vcm_test_tools::{beside_block, joined};
+use vcm_untried::{count_remarks, untried_text, was_all_tried};
 
 // All is known but the programmed mode, and then that too: 10 statements.
 const KNOWN: &str = "DECL/INTGR,FRAME,LATEST

@@ -1,7 +1,7 @@
 //! Statements of small texts that are read in two ways.
 
-use crate::settle;
 use std::alloc::Global;
+use vcm_doubts::settle;
 use vcm_events::Event;
 use vcm_expr::{Expr, Term};
 use vcm_forms::{Argument, Form, Parameter, Statement, Target};

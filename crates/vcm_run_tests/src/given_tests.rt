@@ -1,9 +1,9 @@
 //! A text with what is given.
 
-use crate::{Answer, Choices, GivenFrame, Value, choose};
 use std::alloc::Global;
 use vcm_events::{Event, unknown};
 use vcm_forms::{Form, Statement, Target};
+use vcm_given::{Answer, Choices, GivenFrame, Value, choose};
 use vcm_items::{Name, VariableName};
 use vcm_lines::logical_lines;
 use vcm_num::{Items, is};
