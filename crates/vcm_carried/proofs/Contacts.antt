@@ -28,11 +28,11 @@ pub positive : (with_start : Bool) (gone : Fraction) (box : Block3) (x y : ℕ �
 positive true gone box x y = λ block a b m. m.meets.fraction.positive
 positive false gone box x y = λ block a b m. m.meets.meets.fraction.positive
 
-not_later : (a b c d : ℕ) → nat_le (a * d) (c * b) ≡ true → a * d ≤ c * b
+pub not_later : (a b c d : ℕ) → nat_le (a * d) (c * b) ≡ true → a * d ≤ c * b
 not_later a b c d t = grind arith
 
 -- what is after is not before
-later_than : (a b c d : ℕ) → nat_le (a * d) (c * b) ≡ false → a * d ≤ c * b → ⊥
+pub later_than : (a b c d : ℕ) → nat_le (a * d) (c * b) ≡ false → a * d ≤ c * b → ⊥
 later_than a b c d t l = let over : c * b < a * d = grind arith in absurd (omega (arith, over, l))
 
 -- what is met at the start is met at 0/1
@@ -55,7 +55,7 @@ module _ (box : Block3) (x y : ℕ → ℤ) (block : Block3) (sides : IsInOrder 
       })
 
   module _ (gone : Fraction) where
-    entry_by : (o : Option Fraction) → IsEntry (Meets x y) (spread box block) o → IsEntry (BoxMeetsBy gone box x y) block (if_gone gone o)
+    pub entry_by : (o : Option Fraction) → IsEntry (Meets x y) (spread box block) o → IsEntry (BoxMeetsBy gone box x y) block (if_gone gone o)
     entry_by None e = λ c d m. e c d (box_meets box x y block c d m.meets)
     entry_by (Some f) e = by (is_not_after f gone) refl
       where
@@ -93,7 +93,7 @@ module _ (box : Block3) (x y : ℕ → ℤ) (block : Block3) (sides : IsInOrder 
 
 -- ---- what is told
 
-told : (blocks : List Block3) (M : Block3 → ℕ → ℕ → Type 0) → IsPositive M → (x y : ℕ → ℤ) (o : Option Entered) → IsFound M 1 blocks o
+pub told : (blocks : List Block3) (M : Block3 → ℕ → ℕ → Type 0) → IsPositive M → (x y : ℕ → ℤ) (o : Option Entered) → IsFound M 1 blocks o
     → IsFirstContact blocks M x y (elim o [ None ↦ None | Some e ↦ Some (contact_at x y e) ])
 told blocks M all x y None h = h
 told blocks M all x y (Some e) h = record {

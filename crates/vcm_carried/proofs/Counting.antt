@@ -42,7 +42,7 @@ module _ (gone : Part) (box : Block3) (x y : ℕ → ℤ) (block : Block3) where
 -- ---- the area
 
 -- a block that counts is touched by the area of the box
-touched : (gone : Part) (box block area : Block3) (p q : Point) (a b : ℕ) → IsSwept box p q area → BoxMeetsBy gone box (coordinate p) (coordinate q) block a b →
+pub touched : (gone : Part) (box block area : Block3) (p q : Point) (a b : ℕ) → IsSwept box p q area → BoxMeetsBy gone box (coordinate p) (coordinate q) block a b →
     (is_below (coordinate block.low) (coordinate area.high) && is_below (coordinate area.low) (coordinate block.high)) ≡ true
 touched gone box block area p q a b is m =
     let on : (k : ℕ) → k < 3

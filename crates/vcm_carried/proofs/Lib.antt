@@ -1,7 +1,10 @@
+pub mod Bodies
 pub mod Boxes
 pub mod Contacts
 pub mod Counting
+pub mod Hulls
 pub mod Parts
 pub mod Rising
 pub mod Searching
 pub mod Sides
+pub mod Widened

@@ -1,6 +1,6 @@
 //! Laws of carried boxes, each the contract of a function without a body.
 
-ghost use Rattle.vcm_carried.specs.Laws.{BoxesMeetSpreadBlocks, BoxContactIsComputed, BoxContactIsUnique, CubesAreTips, PointsAreCentres, WiderBoxesMeetMore, UnmovedBoxesMeetTheSame};
+ghost use Rattle.vcm_carried.specs.Laws.{BoxesMeetSpreadBlocks, BoxContactIsComputed, BoxContactIsUnique, CubesAreTips, PointsAreCentres, WiderBoxesMeetMore, UnmovedBoxesMeetTheSame, BodyContactIsComputed, BodyContactIsUnique, OneBoxBodies};
 
 /// Some point of a carried box lies in a block just where the centre of the tip lies in the block grown by the box reflected.
 pub fn boxes_meet_spread_blocks()
@@ -27,4 +27,11 @@ pub fn cubes_are_tips()
 pub fn wider_boxes_meet_more()
     ensures wider { WiderBoxesMeetMore }
     ensures unmoved { UnmovedBoxesMeetTheSame }
+{}
+
+/// The computed contact is what the relation says of a body on a way, and nothing else; that of a body of one box is that of the box.
+pub fn body_contact_is_computed()
+    ensures computed { BodyContactIsComputed }
+    ensures unique { BodyContactIsUnique }
+    ensures one { OneBoxBodies }
 {}

@@ -4,16 +4,20 @@
 
 mod area;
 mod axis;
+mod body;
 mod contact;
 mod crossing;
 mod entered;
 mod fraction;
+mod hull;
 pub mod laws;
 mod meeting;
 mod place;
 mod tip;
 mod way;
+mod wider;
 
+pub use body::first_met_by;
 pub use contact::Contact;
 pub use fraction::Fraction;
 pub use meeting::first_met;

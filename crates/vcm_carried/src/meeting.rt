@@ -17,8 +17,8 @@ use crate::place::point_on_way;
 use crate::way::Way;
 use vcm_spec::{Block3, Hit};
 
-// What is told of a block that is entered. Blocks count from 1.
-fn contact(entered: Entered, way: &Way) -> Contact
+/// What is told of a block that is entered. Blocks count from 1.
+pub(crate) fn contact(entered: Entered, way: &Way) -> Contact
     requires index { entered.index + 1 < 2 ^ 32 }
     requires within { entered.at.num ≤ entered.at.den }
     ensures block { result.hit.block ≡ entered.index + 1 }

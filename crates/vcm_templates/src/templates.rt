@@ -400,6 +400,7 @@ pub fn set_bound(
 }
 
 /// The variable of this kind at an index lies as far from the machine's as a length may.
+#[tactic(auto, unfolding(crate::specs::Templates::sets_near))]
 pub fn set_near(
     out: &mut Vec<Guarded>,
     line: u32,

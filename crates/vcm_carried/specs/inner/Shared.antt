@@ -1,5 +1,6 @@
 -- Stretches of a way, the block that is entered first, and the area that a carried box sweeps.
-use Rattle.std.specs.Prelude.{◌≡◌, ◌⊎◌, ◌↔◌, ℕ, ℤ, pos, negsuc, ◌*◌, ◌<◌, ◌≤◌, ◌-ℤ◌, ◌≤ℤ◌, Option, Some, None}
+use Rattle.std.specs.Prelude.{◌≡◌, ◌⊎◌, ◌↔◌, ℕ, ℤ, pos, negsuc, ◌*◌, ◌<◌, ◌≤◌, ◌-ℤ◌, ◌≤ℤ◌, List, Option, Some, None}
+use Rattle.std.specs.List.{AllByRecursion}
 use Rattle.vcm_num.specs.declared.point.Point.{Point}
 use Rattle.vcm_num.specs.Point.{coordinate}
 use Rattle.vcm_spec.specs.declared.workpiece.Block3.{Block3}
@@ -46,3 +47,17 @@ IsSooner (Some first) next r =
 abbrev pub IsSwept : Block3 → Point → Point → Block3 → Type 0
 IsSwept box p q area =
     (k : ℕ) → k < 3 → IsSpan (coordinate p k) (coordinate q k) (coordinate area.low k -ℤ coordinate box.low k) (coordinate area.high k -ℤ coordinate box.high k)
+
+-- the box on each axis reaches at least as far as the other one
+abbrev pub IsHeldBy : Block3 → Block3 → Type 0
+IsHeldBy holder box =
+    (k : ℕ) → k < 3 → (coordinate holder.low k ≤ℤ coordinate box.low k) × (coordinate box.high k ≤ℤ coordinate holder.high k)
+
+-- the area holds each of these boxes at both ends of the way from p to q
+abbrev pub AreSweptBy : List Block3 → Point → Point → Block3 → Type 0
+AreSweptBy body p q area = AllByRecursion (λ box. IsSwept box p q area) body
+
+-- r is the lesser of a fraction and another one, if there is one
+abbrev pub IsLesser : Fraction → Option Fraction → Fraction → Type 0
+IsLesser f None r = r ≡ f
+IsLesser f (Some g) r = ((r ≡ f) × (f.num * g.den ≤ g.num * f.den)) ⊎ ((r ≡ g) × (g.num * f.den ≤ f.num * g.den))

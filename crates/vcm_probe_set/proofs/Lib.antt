@@ -1,0 +1,5 @@
+pub mod Rows
+pub mod Bodies
+pub mod Capitals
+pub mod Answers
+pub mod Examples

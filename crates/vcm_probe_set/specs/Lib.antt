@@ -1,0 +1,9 @@
+pub mod Names
+pub mod Places
+pub mod Bodies
+pub mod Probes
+pub mod ProbeFile
+pub mod Parts
+pub mod inner
+pub mod Laws
+pub mod Samples
