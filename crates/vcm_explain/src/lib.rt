@@ -26,7 +26,9 @@ use crate::model_entries::{
     model_entries, model_line_entries, model_notice_entries, model_size_entries,
     model_writing_entries,
 };
-use crate::probe_entries::{box_entries, box_name_entries, clearance_entries};
+use crate::probe_entries::{
+    box_entries, box_name_entries, clearance_entries, several_entries, turning_entries,
+};
 use crate::program_entries::{
     block_entries, line_entries, name_entries, size_entries, spelling_entries, value_entries,
 };
@@ -35,7 +37,7 @@ use crate::session_entries::session_entries;
 pub use entry::Entry;
 
 /// All explanations: of programs, of part files, probe files, descriptions of what hangs on the head, models, images and listings, of the debugger, of runs, and of the lines of answers.
-pub fn explanations() -> [&'static [Entry]; 34] {
+pub fn explanations() -> [&'static [Entry]; 36] {
     [
         line_entries(),
         spelling_entries(),
@@ -47,6 +49,7 @@ pub fn explanations() -> [&'static [Entry]; 34] {
         placing_entries(),
         box_entries(),
         box_name_entries(),
+        several_entries(),
         hardware_entries(),
         hardware_part_entries(),
         hardware_name_entries(),
@@ -70,6 +73,7 @@ pub fn explanations() -> [&'static [Entry]; 34] {
         why_entries(),
         view_entries(),
         clearance_entries(),
+        turning_entries(),
         many_entries(),
     ]
 }

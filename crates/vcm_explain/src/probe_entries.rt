@@ -60,7 +60,8 @@ const NAMES: [Entry; 3] = [
     Entry {
         keys: &["B05", "TooManyBoxes"],
         text: "B05 TooManyBoxes
-There are more than 16 boxes.
+There are more than 16 boxes. In a file of several probes, told with the number of the
+probe, or for the swing: there are more than 64.
 Do: join boxes that lie one above the other, or run the program once for each part of
 the probe.",
     },
@@ -80,8 +81,100 @@ gives: B06 UnknownKey box 1 hihg",
     Entry {
         keys: &["B07"],
         text: "B07 DuplicateName
-A box above has the same name.
-Do: give each box a name of its own; the lines of a clearance tell boxes by their names.",
+A box above has the same name, or a probe above: `B07 DuplicateName probe 2`. Boxes of one
+name are one body in a file of several probes, and may repeat there.
+Do: give each box, or probe, a name of its own; the lines of a clearance tell them by their
+names.",
+    },
+];
+
+const SEVERAL: [Entry; 5] = [
+    Entry {
+        keys: &["B08", "TooManyProbes"],
+        text: "B08 TooManyProbes
+There are more than 64 probes.
+Do: leave out those that the program doesn't choose.",
+    },
+    Entry {
+        keys: &["B09"],
+        text: "B09 DuplicateNumber
+A probe above has the same number. The number is the value of the variable by which the
+program chooses the probe.
+For example, a probe file with two probes, each of which has:
+  number = 1
+gives: B09 DuplicateNumber probe 2",
+    },
+    Entry {
+        keys: &["B10"],
+        text: "B10 HomeNotClear
+The tip of this probe, which is half as wide as its key `tip` says, meets a block where the
+probe is at home. The number counts the probes of the file from 1.
+Do: move `home` in the part file, or check `tip`, which is half the diameter of the ball.",
+    },
+    Entry {
+        keys: &["B11", "LimitsTooFar"],
+        text: "B11 LimitsTooFar
+A limit of the machine, `low` or `high` of the part file, is more than 980 m from 0. A turn
+of the head could put the tip farther than a kilometre, where vcm doesn't count.
+Do: write the limits that the machine has.",
+    },
+    Entry {
+        keys: &["B12", "NoVariable"],
+        text: "B12 NoVariable
+The program says by a variable which probe is chosen, and has no INTGR variable of this
+name outside of macros. The name is PROBE, unless the probe file says another one.
+For example, a program that has:
+  DECL/INTGR,PROBE
+  PROBE=ASSIGN/1
+chooses the probe whose `number` is 1. A producer's text with SNSLCT is tried by
+`--whole`, which chooses the probes by their names.",
+    },
+];
+
+const TURNS: [Entry; 6] = [
+    Entry {
+        keys: &["first"],
+        text: "first
+A line of `vcm clearance` with a file of several probes: after this step a probe is on,
+the first of the run. `position` tells where the centre of its tip stands.",
+    },
+    Entry {
+        keys: &["change"],
+        text: "change
+A line of `vcm clearance` with a file of several probes: after this step another probe is
+on. The pivot of the head stays, so the centre of the tip stands elsewhere: the first place
+is that of the old one, the second that of the new one. The next way begins there.",
+    },
+    Entry {
+        keys: &["probe", "not used"],
+        text: "probe
+A line of `vcm clearance` with a file of several probes: how many ways the probe went, and
+below it what its boxes meet. `not used` says that it went none, so nothing of it was
+tried.",
+    },
+    Entry {
+        keys: &["swing", "changes"],
+        text: "swing
+A line of `vcm clearance` with a file of several probes. `changes 2` says how often another
+probe was put on. Where the head turns for it, the boxes of the swing, which hold all that
+turns, are tried about the pivot: `swing head met 1` says at how many turns they meet a
+block, `clear 33655` how far their sides may be moved out so that they meet none.",
+    },
+    Entry {
+        keys: &["beyond"],
+        text: "beyond
+A line of `vcm clearance` with a probe file that has `travel`: at the end of this way the
+pivot of the head lies outside those limits, at `position`. The last line counts such
+ways. Status 3.
+Do: check how far the ram can go, or measure the point with another probe.",
+    },
+    Entry {
+        keys: &["no probe"],
+        text: "no probe
+The last line of a run with a file of several probes: the next statement moves, and the
+probe whose number the variable has isn't on, since no probe has this number, or none was
+chosen yet. The run ends before it. Status 3.
+Do: choose a probe before the first motion, and check the numbers in the probe file.",
     },
 ];
 
@@ -123,6 +216,16 @@ pub(crate) fn box_entries() -> &'static [Entry] {
 // Explanations of what it holds: B05 to B07.
 pub(crate) fn box_name_entries() -> &'static [Entry] {
     &NAMES
+}
+
+// Explanations of files of several probes: B08 to B12.
+pub(crate) fn several_entries() -> &'static [Entry] {
+    &SEVERAL
+}
+
+// Explanations of the lines of a clearance with several probes.
+pub(crate) fn turning_entries() -> &'static [Entry] {
+    &TURNS
 }
 
 // Explanations of the lines of a clearance.
