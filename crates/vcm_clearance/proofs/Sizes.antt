@@ -4,8 +4,7 @@ use Rattle.std.specs.List.{list_all}
 use Rattle.std.proofs.lemmas.Bool.{and_parts}
 use Rattle.std.proofs.lemmas.Int.{ints}
 use Rattle.vcm_num.specs.declared.point.Point.{Point}
-use Rattle.vcm_num.specs.Point.{coordinate, IsReachable}
-use Rattle.vcm_spec.specs.declared.workpiece.Block3.{Block3}
+use Rattle.vcm_num.specs.Point.{coordinate}
 use Rattle.vcm_spec.proofs.Entries.{le_true, below_three}
 use Rattle.vcm_motion.proofs.Inside.{below_each}
 use Rattle.vcm_carried.specs.Carried.{IsBox}
@@ -42,20 +41,3 @@ boxes_at (a ∷ bs) (suc i) b all at = let h = and_parts _ _ all in boxes_at bs 
 
 pub box_at : (bs : List ProbeBox) → AreBoxes bs → (i : ℕ) (b : ProbeBox) → slice_get bs i ≡ Some b → IsBox 10000000 b.block
 box_at bs h i b at = box_is b (boxes_at bs i b h.each at)
-
--- the corners of a box are near
-pub low_corner : (box : Block3) → IsBox 10000000 box → IsReachable box.low
-low_corner box h k l =
-    let s = h k l in
-    let a = s.from_below in
-    let b = s.order in
-    let c = s.from_above in
-    record { from_below = omega (arith, ints); from_above = omega (arith, ints) }
-
-pub high_corner : (box : Block3) → IsBox 10000000 box → IsReachable box.high
-high_corner box h k l =
-    let s = h k l in
-    let a = s.from_below in
-    let b = s.order in
-    let c = s.from_above in
-    record { from_below = omega (arith, ints); from_above = omega (arith, ints) }

@@ -19,13 +19,26 @@ use Rattle.vcm_way.specs.Gone.{Gone, PlacedWay, first_way, ways_in, placed_at}
 use Rattle.vcm_way.specs.Seen.{IsSameWay, IsSameIfAny, seen}
 use Rattle.vcm_marks.specs.declared.mark.Mark.{Mark}
 use Rattle.vcm_marks.specs.declared.mark.Moment.{Moment}
+use Rattle.vcm_clearance.specs.declared.told.Told.{Told}
 use Rattle.vcm_clearance.specs.declared.room.Room.{Room}
 use Rattle.vcm_clearance.specs.declared.room.Room.TheVariants.{Clear}
-use Rattle.vcm_clearance.specs.Contacts.{told_on}
+use Rattle.vcm_clearance.specs.Contacts.{told_on, IsPlaced}
 use Rattle.vcm_clearance.specs.Rooms.{most, counted, IsRoom, AreRooms}
 use Rattle.vcm_clearance.specs.Printed.{contact_line, way_lines, run_lines}
-use Rattle.vcm_clearance.specs.inner.Following.{AreTried, IsDone, IsPlaced, AreAdded, AreCut, is_empty, opening}
+use Rattle.vcm_clearance.specs.inner.Following.{AreTried, IsDone, AreAdded, AreCut, is_empty, opening}
 use Rattle.vcm_clearance.proofs.Roominess.{count_more}
+
+-- ---- a box as a body of its own
+
+module _ (blocks body : List Block3) (box : Block3) (e : body ≡ box ∷ []) where
+  pub to_body : (ws : List PlacedWay) (r : Room) → IsRoom blocks (box ∷ []) ws r → IsRoom blocks body ws r
+  to_body ws r h = subst (λ (own : List Block3). IsRoom blocks own ws r) (sym e) h
+
+  pub of_body : (ws : List PlacedWay) (r : Room) → IsRoom blocks body ws r → IsRoom blocks (box ∷ []) ws r
+  of_body ws r h = subst (λ (own : List Block3). IsRoom blocks own ws r) e h
+
+  pub told_of_body : (is_first : Bool) (p : PlacedWay) (told : Option Told) → told ≡ told_on blocks is_first body p → told ≡ told_on blocks is_first (box ∷ []) p
+  told_of_body is_first p told t = t ∙ ap (λ (own : List Block3). told_on blocks is_first own p) e
 
 -- ---- a room that is set
 
@@ -45,7 +58,7 @@ set_elsewhere (x ∷ xs) (suc n) (suc i) v h = set_elsewhere xs n i v (λ e. h (
 
 module _ (blocks : List Block3) (boxes : List ProbeBox) (is_first : Bool) (ws : List PlacedWay) (p : PlacedWay) where
   abbrev line : ProbeBox → List Line
-  line b = contact_line b.name (told_on blocks is_first b.block p)
+  line b = contact_line b.name (told_on blocks is_first (b.block ∷ []) p)
 
   pub begun : (rooms : List Room) (old : Page) → AreRooms blocks boxes ws rooms → AreTried blocks boxes is_first ws p 0 rooms old old
   begun rooms old h = record {
@@ -57,7 +70,7 @@ module _ (blocks : List Block3) (boxes : List ProbeBox) (is_first : Bool) (ws : 
 
   module _ (n : ℕ) (rooms : List Room) (old mid : Page) (h : AreTried blocks boxes is_first ws p n rooms old mid) (b : ProbeBox) (at : slice_get boxes n ≡ Some b) where
     -- its room is that before the way
-    pub room_before : (r : Room) → slice_get rooms n ≡ Some r → IsRoom blocks b.block ws r
+    pub room_before : (r : Room) → slice_get rooms n ≡ Some r → IsRoom blocks (b.block ∷ []) ws r
     room_before r stands = h.before n b r (omega arith) at stands
 
     front_is : flat_map line (take n boxes) ++ line b ≡ flat_map line (take (n + 1) boxes)
@@ -67,7 +80,7 @@ module _ (blocks : List Block3) (boxes : List ProbeBox) (is_first : Bool) (ws : 
         flat_map_more line [] (take n boxes) b ∙ ap (flat_map line) (sym more) ∙ ap (λ k. flat_map line (take k boxes)) (let e : suc n ≡ n + 1 = omega arith in e)
 
     -- one more is tried
-    pub next : (r : Room) → IsRoom blocks b.block (ws ++ p ∷ []) r → (new : Page) → Adds mid new (line b)
+    pub next : (r : Room) → IsRoom blocks (b.block ∷ []) (ws ++ p ∷ []) r → (new : Page) → Adds mid new (line b)
         → AreTried blocks boxes is_first ws p (n + 1) (slice_set rooms n r) old new
     next r room new w = record {
       count = length-set rooms n r ∙ h.count;
@@ -78,7 +91,7 @@ module _ (blocks : List Block3) (boxes : List ProbeBox) (is_first : Bool) (ws : 
             let same : s ≡ r = set_there rooms n r s (subst (λ k. slice_get (slice_set rooms n r) k ≡ Some s) e stands) in
             let own : Some b ≡ Some c = sym at ∙ subst (λ k. slice_get boxes k ≡ Some c) e there in
             let box : b ≡ c = cc in
-            subst (λ (x : ProbeBox). IsRoom blocks x.block (ws ++ p ∷ []) s) box (subst (IsRoom blocks b.block (ws ++ p ∷ [])) (sym same) room))
+            subst (λ (x : ProbeBox). IsRoom blocks (x.block ∷ []) (ws ++ p ∷ []) s) box (subst (IsRoom blocks (b.block ∷ []) (ws ++ p ∷ [])) (sym same) room))
       ];
       written = adds_more old mid new _ _ _ front_is h.written w;
     }
@@ -182,10 +195,10 @@ module _ (blocks : List Block3) (boxes : List ProbeBox) (place : Moment) where
 -- ---- before the first way
 
 all_free : (blocks : List Block3) (boxes : List ProbeBox) (i : ℕ) (b : ProbeBox) (r : Room) → slice_get boxes i ≡ Some b → slice_get (opening boxes) i ≡ Some r
-    → IsRoom blocks b.block [] r
+    → IsRoom blocks (b.block ∷ []) [] r
 all_free blocks [] i b r at stands = absurd (let no : None ≡ Some b = at in cc)
 all_free blocks (c ∷ cs) zero b r at stands = (let free : Clear 50000 None ≡ r = (let e : Some (Clear 50000 None) ≡ Some r = stands in cc) in
-    subst (IsRoom blocks b.block []) free (refl, tt))
+    subst (IsRoom blocks (b.block ∷ []) []) free (refl, tt))
 all_free blocks (c ∷ cs) (suc i) b r at stands = all_free blocks cs i b r at stands
 
 as_many : (boxes : List ProbeBox) → length (opening boxes) ≡ length boxes

@@ -55,9 +55,9 @@ abbrev pub contact_line : List ℕ → Option Told → List Line
 contact_line name None = []
 contact_line name (Some t) = about t.contact.hit.block (contact_text name t) ∷ []
 
--- the lines of a way, box by box
+-- the lines of a way, box by box, each as a body of its own
 abbrev pub way_lines : List Block3 → List ProbeBox → Bool → PlacedWay → List Line
-way_lines blocks boxes is_first p = flat_map (λ b. contact_line b.name (told_on blocks is_first b.block p)) boxes
+way_lines blocks boxes is_first p = flat_map (λ b. contact_line b.name (told_on blocks is_first (b.block ∷ []) p)) boxes
 
 -- the lines of ways, of which the first is that of the run, or not
 abbrev pub run_lines : List Block3 → List ProbeBox → Bool → List PlacedWay → List Line

@@ -3,7 +3,7 @@
 use vcm_carried::Contact;
 use vcm_marks::Going;
 
-/// A contact of a box with a block: how the way was gone on which it is, the step, counted from 1, the number and the source line of the step's statement, and the contact.
+/// A contact of a body with a block: how the way was gone on which it is, the step, counted from 1, the number and the source line of the step's statement, and the contact.
 #[derive(Clone, Copy)]
 pub struct Told {
     pub going: Going,

@@ -6,14 +6,16 @@ ghost use Rattle.vcm_naming.specs.Pages.{page, Adds, AddsFront};
 ghost use Rattle.vcm_boxes.specs.Boxes.{AreBoxes};
 ghost use Rattle.vcm_way.specs.Gone.{PlacedWay, ways_in};
 ghost use Rattle.vcm_way.specs.Seen.{IsNearWay};
+ghost use Rattle.vcm_clearance.specs.Contacts.{IsPlaced};
 ghost use Rattle.vcm_clearance.specs.Rooms.{most, AreRooms};
 ghost use Rattle.vcm_clearance.specs.Printed.{way_lines};
-ghost use Rattle.vcm_clearance.specs.inner.Following.{IsPlaced, AreAdded, AreCut};
+ghost use Rattle.vcm_clearance.specs.inner.Following.{AreAdded, AreCut};
 
 use crate::printing::write_contact;
 use crate::room::Room;
 use crate::rooms::{next_room, told_on};
 use std::io::Write;
+use std::slice::from_ref;
 use vcm_boxes::ProbeBox;
 use vcm_marks::{Mark, Moment};
 use vcm_naming::BlockNames;
@@ -51,8 +53,9 @@ fn try_way<W: Write>(
         let Some(room) = rooms.get(index) else {
             return Ok(());
         };
-        let room = next_room(blocks, &tried.block, *room, place, gone);
-        let told = told_on(blocks, &tried.block, room, place, gone, is_first);
+        let body = from_ref(&tried.block);
+        let room = next_room(blocks, body, *room, place, gone);
+        let told = told_on(blocks, body, room, place, gone, is_first);
         rooms[index] = room;
         write_contact(tried.name.as_bytes(), told, names, writer)?;
     }

@@ -63,7 +63,7 @@ module _ (blocks : List Block3) (all : list_all is_block blocks ≡ true) (ways 
   same_rooms (b ∷ bs) [] ss sides h k = absurd (let no = h.count in omega (arith, no))
   same_rooms (b ∷ bs) (r ∷ rs) [] sides h k = absurd (let no = k.count in omega (arith, no))
   same_rooms (b ∷ bs) (r ∷ rs) (s ∷ ss) sides h k =
-      let first : r ≡ s = rooms_one b.block blocks (sides 0 b refl) all ways r s (h.each 0 b r refl refl) (k.each 0 b s refl refl) in
+      let first : r ≡ s = rooms_one (b.block ∷ []) blocks (sides 0 b refl, tt) all ways r s (h.each 0 b r refl refl) (k.each 0 b s refl refl) in
       let rest : rs ≡ ss = same_rooms bs rs ss (λ i. sides (suc i)) (behind b r bs rs h) (behind b s bs ss k) in
       ap (λ x. x ∷ rs) first ∙ ap (λ xs. s ∷ xs) rest
     where

@@ -1,5 +1,5 @@
 -- What is known while the ways of a run are tried.
-use Rattle.std.specs.Prelude.{◌≡◌, ℕ, ◌+◌, ◌<◌, Bool, true, false, List, [], ◌∷◌, ◌++◌, length, map, take, flat_map, slice_get, Option, Some, None}
+use Rattle.std.specs.Prelude.{◌≡◌, ℕ, ◌+◌, ◌<◌, Bool, true, false, List, [], ◌∷◌, ◌++◌, length, map, take, flat_map, slice_get, Some, None}
 use Rattle.vcm_spec.specs.declared.workpiece.Block3.{Block3}
 use Rattle.vcm_spec.specs.Workpiece.{Workpiece, grown}
 use Rattle.vcm_carried.specs.declared.contact.Contact.{Contact}
@@ -18,20 +18,13 @@ use Rattle.vcm_clearance.specs.Contacts.{contact_on, told_on}
 use Rattle.vcm_clearance.specs.Rooms.{counted, IsRoom, AreRooms}
 use Rattle.vcm_clearance.specs.Printed.{contact_line, run_lines}
 
--- the way of the code at a place is this way of the run
-pub record IsPlaced (place : Moment) (v : Went) (p : PlacedWay) : Type 0 where
-  pub way : IsSameWay (seen v) p.way
-  pub step : p.step ≡ place.step
-  pub number : p.number ≡ place.number
-  pub line : p.line ≡ place.line
-
--- with its sides moved out by g, the box meets no block on the way of the code
-abbrev pub IsClearWith : List Block3 → Block3 → Went → ℕ → Type 0
-IsClearWith blocks box v g = (w : Gone) → IsSameWay (seen v) w → contact_on blocks true (grown g box) w ≡ None
+-- with the sides of its boxes moved out by g, the body meets no block on the way of the code
+abbrev pub IsClearWith : List Block3 → List Block3 → Went → ℕ → Type 0
+IsClearWith blocks body v g = (w : Gone) → IsSameWay (seen v) w → contact_on blocks true (map (grown g) body) w ≡ None
 
 -- it then meets this first
-abbrev pub IsMetWith : List Block3 → Block3 → Went → ℕ → Contact → Type 0
-IsMetWith blocks box v g contact = (w : Gone) → IsSameWay (seen v) w → contact_on blocks true (grown g box) w ≡ Some contact
+abbrev pub IsMetWith : List Block3 → List Block3 → Went → ℕ → Contact → Type 0
+IsMetWith blocks body v g contact = (w : Gone) → IsSameWay (seen v) w → contact_on blocks true (map (grown g) body) w ≡ Some contact
 
 -- whether there is none
 abbrev pub is_empty : {A : Type 0} → List A → Bool
@@ -42,9 +35,9 @@ is_empty (x ∷ xs) = false
 pub record AreTried (blocks : List Block3) (boxes : List ProbeBox) (is_first : Bool) (ws : List PlacedWay) (p : PlacedWay) (n : ℕ) (rooms : List Room)
     (old new : Page) : Type 0 where
   pub count : length rooms ≡ length boxes
-  pub before : (i : ℕ) (b : ProbeBox) (r : Room) → n < i + 1 → slice_get boxes i ≡ Some b → slice_get rooms i ≡ Some r → IsRoom blocks b.block ws r
-  pub behind : (i : ℕ) (b : ProbeBox) (r : Room) → i < n → slice_get boxes i ≡ Some b → slice_get rooms i ≡ Some r → IsRoom blocks b.block (ws ++ p ∷ []) r
-  pub written : Adds old new (flat_map (λ b. contact_line b.name (told_on blocks is_first b.block p)) (take n boxes))
+  pub before : (i : ℕ) (b : ProbeBox) (r : Room) → n < i + 1 → slice_get boxes i ≡ Some b → slice_get rooms i ≡ Some r → IsRoom blocks (b.block ∷ []) ws r
+  pub behind : (i : ℕ) (b : ProbeBox) (r : Room) → i < n → slice_get boxes i ≡ Some b → slice_get rooms i ≡ Some r → IsRoom blocks (b.block ∷ []) (ws ++ p ∷ []) r
+  pub written : Adds old new (flat_map (λ b. contact_line b.name (told_on blocks is_first (b.block ∷ []) p)) (take n boxes))
 
 -- these ways were tried, and so many were counted
 pub record IsDone (blocks : List Block3) (boxes : List ProbeBox) (ws : List PlacedWay) (rooms : List Room) (count : ℕ) : Type 0 where

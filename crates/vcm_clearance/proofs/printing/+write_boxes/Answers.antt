@@ -1,5 +1,5 @@
 use Rattle.std.proofs.Common.{refl}
-use Rattle.vcm_naming.proofs.Pages.{adds_nothing, added_then, adds_front_first}
+use Rattle.vcm_naming.proofs.Pages.{added_then, adds_front_first}
 use Rattle.vcm_clearance.specs.Printed.{boxes_lines}
 use Rattle.vcm_clearance.proofs.printing.+write_boxes.Goals as goal
 

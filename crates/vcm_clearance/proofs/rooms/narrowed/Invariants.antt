@@ -6,8 +6,8 @@ abbrev pub invariant-loop-beyond : goal.invariant-loop-beyond
 invariant-loop-beyond l = record {
   order : l.clear < l.beyond;
   most : l.beyond ≤ l.wide;
-  free : IsClearWith l.blocks.blocks l.block l.gone l.clear;
-  narrow : IsMetWith l.blocks.blocks l.block l.gone l.beyond l.found;
+  free : IsClearWith l.blocks.blocks l.body l.gone l.clear;
+  narrow : IsMetWith l.blocks.blocks l.body l.gone l.beyond l.found;
 }
 
 abbrev pub decreases-loop-beyond : goal.decreases-loop-beyond

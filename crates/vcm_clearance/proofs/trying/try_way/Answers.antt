@@ -1,8 +1,8 @@
-use Rattle.std.proofs.Common.{◌≡◌, Some, slice_get, refl, sym, ap, ◌∙◌}
+use Rattle.std.proofs.Common.{◌≡◌, Some, [], ◌∷◌, ◌++◌, slice_get, refl, sym, ap, ◌∙◌}
 use Rattle.std.proofs.lemmas.Option.{slice_get-get_or, slice_get_read}
 use Rattle.std.proofs.lemmas.Result.{err_from_is_err_and}
 use Rattle.vcm_clearance.proofs.Sizes.{box_at}
-use Rattle.vcm_clearance.proofs.Tried.{room_before, next, cut, ended}
+use Rattle.vcm_clearance.proofs.Tried.{to_body, of_body, told_of_body, room_before, next, cut, ended}
 use Rattle.vcm_clearance.proofs.trying.try_way.Goals as goal
 
 pub next_room-room-requires : goal.next_room-room-requires
@@ -11,7 +11,7 @@ next_room-room-requires g c =
     let b = c.index-boxes-index.result in
     let n = c.loop-index.index in
     let at : slice_get boxes n ≡ Some b = slice_get-get_or boxes n _ c.loop-index-test.true ∙ ap Some (sym c.index-boxes-index.is) in
-    box_at boxes c.requires n b at
+    rw c.from_ref-body.ensures.value (box_at boxes c.requires n b at, tt)
 
 pub told_on-told-requires : goal.told_on-told-requires
 told_on-told-requires g c =
@@ -19,7 +19,7 @@ told_on-told-requires g c =
     let b = c.index-boxes-index.result in
     let n = c.loop-index.index in
     let at : slice_get boxes n ≡ Some b = slice_get-get_or boxes n _ c.loop-index-test.true ∙ ap Some (sym c.index-boxes-index.is) in
-    box_at boxes c.requires n b at
+    rw c.from_ref-body.ensures.value (box_at boxes c.requires n b at, tt)
 
 pub returns-in_err-write_contact-clause-err : goal.returns-in_err-write_contact-clause-err
 returns-in_err-write_contact-clause-err g c =
@@ -35,8 +35,9 @@ returns-in_err-write_contact-clause-err g c =
     let read = slice_get_read c.deref.result.now _ n c.in-Some.room.now refl there.3.0 there.1 in
     let stands : slice_get c.loop-index.rooms.items n ≡ Some c.in-Some.room.now = (rw c.deref.ensures.value at read) in
     let before = room_before blocks boxes c.args.is_first ws p n c.loop-index.rooms.items _ _ tried b at c.in-Some.room.now stands in
-    let room = c.next_room-room.ensures ws p placed before in
-    let told = c.told_on-told.ensures ws p placed room in
+    let e = c.from_ref-body.ensures.value in
+    let own = c.next_room-room.ensures ws p placed (to_body blocks _ b.block e ws c.in-Some.room.now before) in
+    let told = told_of_body blocks _ b.block e c.args.is_first p c.told_on-told.result (c.told_on-told.ensures ws p [] placed own) in
     cut blocks boxes c.args.is_first ws p n c.loop-index.rooms.items _ _ tried b at _ (rw (c.as_bytes.ensures.is, told) at c.in_err-write_contact.ensures))
 
 pub loop-index-preserved : goal.loop-index-preserved
@@ -51,9 +52,10 @@ loop-index-preserved g c ws p placed rooms =
     let read = slice_get_read c.deref.result.now _ n c.in-Some.room.now refl there.3.0 there.1 in
     let stands : slice_get c.loop-index.rooms.items n ≡ Some c.in-Some.room.now = (rw c.deref.ensures.value at read) in
     let before = room_before blocks boxes c.args.is_first ws p n c.loop-index.rooms.items _ _ tried b at c.in-Some.room.now stands in
-    let room = c.next_room-room.ensures ws p placed before in
-    let told = c.told_on-told.ensures ws p placed room in
-    next blocks boxes c.args.is_first ws p n c.loop-index.rooms.items _ _ tried b at c.next_room-room.result room _ (rw (c.as_bytes.ensures.is, told) at c.in_ok-write_contact.ensures)
+    let e = c.from_ref-body.ensures.value in
+    let own = c.next_room-room.ensures ws p placed (to_body blocks _ b.block e ws c.in-Some.room.now before) in
+    let told = told_of_body blocks _ b.block e c.args.is_first p c.told_on-told.result (c.told_on-told.ensures ws p [] placed own) in
+    next blocks boxes c.args.is_first ws p n c.loop-index.rooms.items _ _ tried b at c.next_room-room.result (of_body blocks _ b.block e (ws ++ p ∷ []) c.next_room-room.result own) _ (rw (c.as_bytes.ensures.is, told) at c.in_ok-write_contact.ensures)
 
 pub returns-clause-ok : goal.returns-clause-ok
 returns-clause-ok g c ws p placed rooms =

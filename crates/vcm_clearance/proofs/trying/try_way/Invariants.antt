@@ -1,8 +1,9 @@
 use Rattle.std.proofs.Common.{List}
 use Rattle.vcm_naming.specs.Pages.{page}
 use Rattle.vcm_way.specs.Gone.{PlacedWay}
+use Rattle.vcm_clearance.specs.Contacts.{IsPlaced}
 use Rattle.vcm_clearance.specs.Rooms.{AreRooms}
-use Rattle.vcm_clearance.specs.inner.Following.{IsPlaced, AreTried}
+use Rattle.vcm_clearance.specs.inner.Following.{AreTried}
 use Rattle.vcm_clearance.proofs.trying.try_way.Given as goal
 
 abbrev pub invariant-loop-index : goal.invariant-loop-index

@@ -1,0 +1,11 @@
+pub mod Pivots
+pub mod Coordinates
+pub mod Held
+pub mod Runs
+pub mod Joining
+pub mod Positions
+pub mod Hanging
+pub mod Started
+pub mod Losing
+pub mod Taken
+pub mod Followed
