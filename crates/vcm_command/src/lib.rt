@@ -1,5 +1,5 @@
 //! The commands of vcm: what its command line asks for is carried out. Here stand checks and trials of several programs, workpieces off their
-//! place, producers' texts, blocks of models, probe files, explanations and the debug adapter; the others stand in `vcm_devices`.
+//! place, producers' texts, blocks of models, probe files, clearances, explanations and the debug adapter; the others stand in `vcm_devices`.
 #![tactic(auto)]
 
 mod blocks;
@@ -14,6 +14,7 @@ mod judged;
 mod off_place;
 mod producing;
 mod program;
+mod several;
 mod telling;
 mod whole;
 mod whole_debug;

@@ -9,6 +9,7 @@ use crate::hardware::probe_file;
 use crate::judge::judge_programs;
 use crate::off_place::show_places;
 use crate::producing::{adapt_file, survey_file};
+use crate::several::show_cleared;
 use crate::whole::show_whole;
 use clap::Error;
 use clap::error::ErrorKind;
@@ -16,8 +17,8 @@ use std::io;
 use std::rt::{Env, Files};
 use vcm_devices::{
     NamedView, Request, Terminals, View, Voice, asm_file, build_file, debug_file, fails, list_file,
-    matches_of, run_job, show_clearance, show_named, show_page, show_part, show_picture,
-    show_points, show_result, show_view, voice_of,
+    matches_of, run_job, show_named, show_page, show_part, show_picture, show_points, show_result,
+    show_view, voice_of,
 };
 use vcm_messages::Message;
 use vcm_usage::{Choice, Rest, Verb};
@@ -107,7 +108,7 @@ fn carry_out<R: Files + Input + Print + Eprint + AllocGlobal>(
         Verb::Trace => show_view(rt, voice, &View::Trace, request),
         Verb::Margin => show_view(rt, voice, &View::Margin, request),
         Verb::Points => show_points(rt, voice, request),
-        Verb::Clearance => show_clearance(rt, voice, request),
+        Verb::Clearance => show_cleared(rt, voice, request),
         Verb::Picture => show_picture(rt, voice, request),
         Verb::View => show_page(rt, voice, request),
         Verb::Part => show_part(rt, voice, request),

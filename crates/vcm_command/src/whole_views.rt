@@ -395,8 +395,8 @@ fn short_of_memory(message: Message<'_>) -> Message<'_> {
     }
 }
 
-// Prints a view of a run of what was given as it is written.
-fn print_plain<'a, R: Print + AllocGlobal>(
+/// Prints a view of a run of what was given as it is written.
+pub(crate) fn print_plain<'a, R: Print + AllocGlobal>(
     rt: &R,
     view: &View<'_>,
     setting: &NamedSetting,

@@ -30,8 +30,8 @@ pub use printing::{
 pub use request::{Request, matches_of, steps_of};
 pub use sheets::{LINES, base_name, is_sheet, lines_given, lines_of, show_picture, titles_of};
 pub use showing::{
-    NamedSetting, NamedView, Unread, boxes_of, named_setting_of, show_clearance, show_named,
-    show_points, show_view, tell_unread,
+    NamedSetting, NamedView, Unread, boxes_of, named_setting_of, show_named, show_points,
+    show_view, tell_unread,
 };
 pub use talking::{Terminals, Told, Voice, alone, fails_in_view, fails_twice, voice_of};
 pub use values::show_result;

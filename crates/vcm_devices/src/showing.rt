@@ -13,7 +13,7 @@ use vcm_job::{Done, ReadFault, read_all};
 use vcm_messages::{Message, message_of, probe_message};
 use vcm_part::PartData;
 use vcm_usage::Choice;
-use vcm_views::{AllContacts, Clearance, Points, Why};
+use vcm_views::{AllContacts, Points, Why};
 
 /// Why the boxes of a file aren't read.
 #[derive(Drop)]
@@ -214,35 +214,5 @@ pub fn show_named<R: Files + Input + Print + Eprint + AllocGlobal>(
             )
         }
         Err(told) => fails_twice(rt, &told),
-    }
-}
-
-/// Prints which boxes of a probe meet a block in a run, and gives the exit status. The probe file is judged after the workpiece.
-pub fn show_clearance<R: Files + Input + Print + Eprint + AllocGlobal>(
-    rt: &R,
-    voice: Voice,
-    request: &Request<'_, '_>,
-) -> u8 {
-    let setting = match named_setting_of(rt, voice, request) {
-        Ok(setting) => setting,
-        Err(told) => return fails_twice(rt, &told),
-    };
-    match boxes_of(rt, request.probe()) {
-        Ok(boxes) => {
-            let view = View::Clearance(Clearance {
-                boxes: &boxes,
-                untried: &[],
-                block_names: &setting.block_names,
-            });
-            show_beside(
-                rt,
-                voice,
-                &view,
-                &setting.part,
-                request.input(),
-                setting.steps,
-            )
-        }
-        Err(unread) => tell_unread(rt, voice, &unread, request.probe()),
     }
 }

@@ -70,7 +70,9 @@ the probe.",
         text: "B06 UnknownKey
 Another key than `box` stands in the probe file, or, with the number of a box, another
 than `name`, `low` and `high` in it. A key that is passed over in silence would be a box
-that isn't tried. The tip itself stands in the part file, since it may touch.
+that isn't tried. The tip itself stands in the part file, since it may touch. `UnknownKey
+probe` is told of a file of several probes, which only `vcm clearance` without `--whole`
+tries.
 For example, a probe file:
   [[box]]
   name = \"shaft\"

@@ -1,0 +1,235 @@
+//! The clearance of a probe, or of several, one of which a program chooses at a time: with several the head turns between steps.
+
+use crate::whole_views::print_plain;
+use std::alloc::Global;
+use std::rt::Files;
+use vcm_boxes::{Boxes, read_boxes};
+use vcm_devices::{
+    NamedSetting, Request, Unread, View, Voice, bytes_of, fails, fails_in_view, fails_twice,
+    fails_unless_closed, named_setting_of, print_bytes, status_after, tell_unread,
+};
+use vcm_job::{Done, Given, InputRefusal, RunFault, given_of, status_of};
+use vcm_loader::{Loaded, load};
+use vcm_messages::{Message, message_of};
+use vcm_probe_set::{ProbeSet, ProbeSetFault, is_of_several, read_probes, why_unfit};
+use vcm_set_clearance::{SetFault, SetRun, SetText, run_set, set_text};
+use vcm_turning::Ended;
+use vcm_views::Clearance;
+
+// Tells in which file a refusal is, where that is told, and gives the exit status of a refusal.
+fn in_file<R: Eprint>(rt: &R, voice: Voice, name: &str) -> u8 {
+    if voice.tells_more {
+        let _ = eprintln!(rt; "in {name}");
+    }
+    1
+}
+
+// Tells why a file of several probes isn't read, and gives the exit status.
+fn tell_set_fault<R: Eprint>(rt: &R, voice: Voice, fault: &ProbeSetFault, name: &str) -> u8 {
+    match fault {
+        ProbeSetFault::NoMemory => fails(rt, Message::NoMemory),
+        ProbeSetFault::Refused(refusal) => {
+            let _ = eprintln!(rt; "{refusal}");
+            in_file(rt, voice, name)
+        }
+    }
+}
+
+// Tells why a run with several probes wasn't done, and gives the exit status.
+fn tell_run_fault<R: Eprint>(
+    rt: &R,
+    voice: Voice,
+    fault: SetFault,
+    set: &ProbeSet,
+    request: &Request<'_, '_>,
+) -> u8 {
+    match fault {
+        SetFault::NoMemory => fails(rt, Message::NoMemory),
+        SetFault::Unfit(unfit) => {
+            let _ = eprintln!(rt; "{unfit}");
+            in_file(rt, voice, request.probe())
+        }
+        SetFault::NoVariable => {
+            let name = std::str::from_utf8(set.variable().as_bytes()).unwrap_or("?");
+            let _ = eprintln!(rt; "B12 NoVariable {name}");
+            in_file(rt, voice, request.input())
+        }
+    }
+}
+
+// The exit status of a run with several probes.
+fn status_with(run: &SetRun, is_met: bool) -> u8 {
+    if is_met {
+        return 3;
+    }
+    match run.end {
+        Ended::Lost(_) => 3,
+        _ => status_of(run.stop),
+    }
+}
+
+// The text of a run with several probes; none where memory is refused.
+fn text_of(
+    alloc: Global,
+    loaded: &Loaded<'_>,
+    set: &ProbeSet,
+    setting: &NamedSetting,
+    run: &SetRun,
+) -> Option<SetText> {
+    let Ok(tables) = loaded.tables(alloc) else {
+        return None;
+    };
+    let names = setting.block_names.as_slice();
+    match set_text(alloc, set, &setting.part, run, b"", &tables, names) {
+        Ok(told) => Some(told),
+        Err(_) => None,
+    }
+}
+
+// Prints what a run with several probes came to, and gives its exit status. Where it isn't printed, it is told why, and the exit status is given as a fault.
+fn print_run<R: Print + Eprint + AllocGlobal>(
+    rt: &R,
+    told: &SetText,
+    run: &SetRun,
+) -> Result<u8, u8> {
+    match print_bytes(rt, told.text.as_slice()) {
+        Ok(()) => Ok(status_with(run, told.is_met)),
+        Err(message) => Err(fails_unless_closed(rt, message)),
+    }
+}
+
+// Runs a loaded code with several probes, and prints what that came to, likewise.
+fn show_loaded<R: Print + Eprint + AllocGlobal>(
+    rt: &R,
+    voice: Voice,
+    request: &Request<'_, '_>,
+    setting: &NamedSetting,
+    set: &ProbeSet,
+    loaded: &Loaded<'_>,
+) -> Result<u8, u8> {
+    let alloc = rt.alloc();
+    match run_set(alloc, loaded, set, &setting.part, setting.steps) {
+        Ok(run) => match text_of(alloc, loaded, set, setting, &run) {
+            Some(told) => print_run(rt, &told, &run),
+            None => Err(fails(rt, Message::NoMemory)),
+        },
+        Err(fault) => Err(tell_run_fault(rt, voice, fault, set, request)),
+    }
+}
+
+// The same of an image.
+fn show_image<R: Print + Eprint + AllocGlobal>(
+    rt: &R,
+    voice: Voice,
+    request: &Request<'_, '_>,
+    setting: &NamedSetting,
+    set: &ProbeSet,
+    image: &[u8],
+) -> Result<u8, u8> {
+    let input = request.input();
+    match load(rt.alloc(), image) {
+        Ok(loaded) => show_loaded(rt, voice, request, setting, set, &loaded),
+        Err(fault) => {
+            let message = message_of(RunFault::Refused(InputRefusal::Image(fault)), input);
+            Err(fails_in_view(rt, voice, message, input))
+        }
+    }
+}
+
+// Runs what was given with several probes, prints what that came to, and gives the exit status.
+fn show_run<R: Print + Eprint + AllocGlobal>(
+    rt: &R,
+    voice: Voice,
+    request: &Request<'_, '_>,
+    setting: &NamedSetting,
+    set: &ProbeSet,
+    given: Given,
+) -> u8 {
+    match show_image(rt, voice, request, setting, set, &given.image) {
+        Ok(status) => {
+            let Given { notices, .. } = given;
+            status_after(rt, voice, Ok(Done { status, notices }))
+        }
+        Err(status) => status,
+    }
+}
+
+// The program or image that is given.
+fn given_input<'a, R: Files + Input + AllocGlobal>(
+    rt: &R,
+    input: &'a str,
+) -> Result<Given, Message<'a>> {
+    let bytes = bytes_of(rt, input)?;
+    match given_of(rt.alloc(), bytes) {
+        Ok(given) => Ok(given),
+        Err(fault) => Err(message_of(fault, input)),
+    }
+}
+
+// The clearance of several probes. The file is judged first, then whether its probes can be tried beside the workpiece, and then the input.
+fn show_several<R: Files + Input + Print + Eprint + AllocGlobal>(
+    rt: &R,
+    voice: Voice,
+    request: &Request<'_, '_>,
+    setting: &NamedSetting,
+    file: &[u8],
+) -> u8 {
+    let set = match read_probes(rt.alloc(), file) {
+        Ok(set) => set,
+        Err(fault) => return tell_set_fault(rt, voice, &fault, request.probe()),
+    };
+    if let Some(unfit) = why_unfit(&setting.part, &set) {
+        return tell_run_fault(rt, voice, SetFault::Unfit(unfit), &set, request);
+    }
+    match given_input(rt, request.input()) {
+        Ok(given) => show_run(rt, voice, request, setting, &set, given),
+        Err(message) => fails_in_view(rt, voice, message, request.input()),
+    }
+}
+
+// The clearance of boxes that are fixed to the tip.
+fn show_boxes<'x, R: Files + Input + Print + Eprint + AllocGlobal>(
+    rt: &R,
+    voice: Voice,
+    request: &Request<'_, '_>,
+    setting: &'x NamedSetting,
+    boxes: &'x Boxes,
+) -> u8 {
+    let given = match given_input(rt, request.input()) {
+        Ok(given) => given,
+        Err(message) => return fails_in_view(rt, voice, message, request.input()),
+    };
+    let view = View::Clearance(Clearance {
+        boxes,
+        untried: &[],
+        block_names: setting.block_names.as_slice(),
+    });
+    match print_plain(rt, &view, setting, given, request.input()) {
+        Ok(done) => status_after(rt, voice, Ok(done)),
+        Err(message) => fails_in_view(rt, voice, message, request.input()),
+    }
+}
+
+/// Prints what the boxes of a probe, or of several, meet in a run, and gives the exit status. The probe file is judged after the workpiece.
+pub(crate) fn show_cleared<R: Files + Input + Print + Eprint + AllocGlobal>(
+    rt: &R,
+    voice: Voice,
+    request: &Request<'_, '_>,
+) -> u8 {
+    let setting = match named_setting_of(rt, voice, request) {
+        Ok(setting) => setting,
+        Err(told) => return fails_twice(rt, &told),
+    };
+    let file = match bytes_of(rt, request.probe()) {
+        Ok(file) => file,
+        Err(message) => return fails(rt, message),
+    };
+    match is_of_several(rt.alloc(), &file) {
+        Err(_) => fails(rt, Message::NoMemory),
+        Ok(true) => show_several(rt, voice, request, &setting, &file),
+        Ok(false) => match read_boxes(rt.alloc(), &file) {
+            Ok(boxes) => show_boxes(rt, voice, request, &setting, &boxes),
+            Err(fault) => tell_unread(rt, voice, &Unread::Refused(fault), request.probe()),
+        },
+    }
+}

@@ -1,0 +1,6 @@
+pub mod Adding
+pub mod Collecting
+pub mod Pivots
+pub mod Seeing
+pub mod Sizes
+pub mod Stepping

@@ -1,0 +1,9 @@
+use Rattle.std.proofs.Common.{List}
+use Rattle.vcm_clearance.specs.Rooms.{IsRoom}
+use Rattle.vcm_set_clearance.specs.Events.{Happening, AreEvents}
+use Rattle.vcm_set_clearance.specs.Swings.{standings}
+use Rattle.vcm_set_clearance.proofs.Seeing.{IsBehind}
+use Rattle.vcm_set_clearance.proofs.rooms.swing_room.Given as goal
+
+abbrev pub invariant-loop-event : goal.invariant-loop-event
+invariant-loop-event l = (all : List Happening) → AreEvents l.events all → IsBehind (λ hs. IsRoom l.blocks.blocks l.body (standings l.probes hs) l.room) l.events l.event-index all

@@ -1,0 +1,4 @@
+pub mod Events
+pub mod Swings
+pub mod Report
+pub mod inner

@@ -1,0 +1,16 @@
+//! The clearance of several probes in a run that turns its head: which blocks the bodies of each probe meet on the ways by it, how much room is left round those that
+//! meet none, and what the swing meets where the head turns. Lengths are whole micrometres.
+#![tactic(auto)]
+
+mod event;
+mod gathering;
+mod parts;
+mod report;
+mod rooms;
+mod writing;
+
+pub use event::{Change, Event, ProbeWay};
+pub use gathering::SetRun;
+pub use parts::{SetFault, run_set};
+pub use rooms::{is_turn, room_of, standing, swing_room, told_at_turn, told_of};
+pub use writing::{SetText, set_text};
