@@ -20,6 +20,12 @@ BOUNDS = "low = [-500000, -500000, -500000]\nhigh = [500000, 500000, 500000]\nho
 FILES = {
     # a part whose blocks are cut into strips
     "twenty.toml": BOUNDS + "".join(f"[[block]]\nlow = [{20000 * i}, 10000, 0]\nhigh = [{20000 * i + 20000}, 30000, 20000]\n" for i in range(20)),
+    # two probes, between which the head turns, and a program that chooses them
+    "heads.toml": "".join(
+        f'[[probe]]\nname = "T{n}"\nnumber = {n}\npivot = {pivot}\n[[probe.box]]\nname = "shaft"\nlow = {low}\nhigh = {high}\n'
+        for n, pivot, low, high in ((1, "[0, 0, 100000]", "[-700, -700, 5000]", "[700, 700, 50000]"), (2, "[0, 100000, 0]", "[-700, 5000, -700]", "[700, 50000, 700]"))
+    ) + '[[swing]]\nname = "round"\nlow = [-20000, -110000, -110000]\nhigh = [20000, 110000, 30000]\n',
+    "chosen.dmi": HEAD + "FEDRAT/POSVEL,MPM,4\nDECL/INTGR,PROBE\nPROBE=ASSIGN/1\nGOTO/0,0,180\nPROBE=ASSIGN/2\nGOTO/0,0,190\nENDFIL\n",
     # keys that nothing uses, a name, and faults
     "notes.toml": 'made = "by hand"\n' + BOUNDS + '[[block]]\nname = "vise"\nlow = [10000, 10000, 0]\nhigh = [30000, 30000, 20000]\ncolour = "red"\n',
     "low.toml": BOUNDS + "[[block]]\nlow = [10000, 10000, 0]\nhigh = [30000, 9000, 20000]\n",
@@ -154,6 +160,8 @@ def runs():
     yield case("run touch.dmi -", read("part-a.toml"))
     yield case("run touch.dmi - --show I", read("part-a.toml"), status=2)
     yield case("clearance touch.dmi part-a.toml -", read("stylus.toml"), status=3, kind="lines")
+    yield case("clearance chosen.dmi notes.toml heads.toml", kind="lines")
+    yield case("clearance grid.dmi part-a.toml heads.toml", status=1)
     yield case("run - -", status=2)
     yield case("run notices.dmi notes.toml --talk")
     yield case("run late.dmi part-a.toml --talk", status=1)

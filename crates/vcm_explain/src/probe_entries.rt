@@ -95,15 +95,38 @@ const SEVERAL: [Entry; 5] = [
         keys: &["B08", "TooManyProbes"],
         text: "B08 TooManyProbes
 There are more than 64 probes.
-Do: leave out those that the program doesn't choose.",
+Do: leave out those that the program doesn't choose.
+For example, a probe file:
+  probe = [
+  {}, {}, {}, {}, {}, {}, {}, {}, {}, {}, {}, {}, {}, {}, {}, {}, {}, {}, {}, {},
+  {}, {}, {}, {}, {}, {}, {}, {}, {}, {}, {}, {}, {}, {}, {}, {}, {}, {}, {}, {},
+  {}, {}, {}, {}, {}, {}, {}, {}, {}, {}, {}, {}, {}, {}, {}, {}, {}, {}, {}, {},
+  {}, {}, {}, {}, {},
+  ]
+gives: B08 TooManyProbes",
     },
     Entry {
         keys: &["B09"],
         text: "B09 DuplicateNumber
 A probe above has the same number. The number is the value of the variable by which the
 program chooses the probe.
-For example, a probe file with two probes, each of which has:
+For example, a probe file:
+  [[probe]]
+  name = \"T1\"
   number = 1
+  pivot = [0, 0, 100000]
+  [[probe.box]]
+  name = \"shaft\"
+  low  = [-700, -700, 5000]
+  high = [700, 700, 50000]
+  [[probe]]
+  name = \"T2\"
+  number = 1
+  pivot = [0, 0, 100000]
+  [[probe.box]]
+  name = \"shaft\"
+  low  = [-700, -700, 5000]
+  high = [700, 700, 50000]
 gives: B09 DuplicateNumber probe 2",
     },
     Entry {
@@ -124,12 +147,21 @@ Do: write the limits that the machine has.",
         keys: &["B12", "NoVariable"],
         text: "B12 NoVariable
 The program says by a variable which probe is chosen, and has no INTGR variable of this
-name outside of macros. The name is PROBE, unless the probe file says another one.
-For example, a program that has:
-  DECL/INTGR,PROBE
-  PROBE=ASSIGN/1
-chooses the probe whose `number` is 1. A producer's text with SNSLCT is tried by
-`--whole`, which chooses the probes by their names.",
+name outside of macros. The name is PROBE, unless the probe file says another one with
+`variable`.
+Do: write DECL/INTGR,PROBE, and PROBE=ASSIGN/1 before the first motion: it chooses the
+probe whose `number` is 1.
+For example, a probe file:
+  variable = \"TOOL\"
+  [[probe]]
+  name = \"T1\"
+  number = 1
+  pivot = [0, 0, 100000]
+  [[probe.box]]
+  name = \"shaft\"
+  low  = [-700, -700, 5000]
+  high = [700, 700, 50000]
+gives: B12 NoVariable TOOL",
     },
 ];
 
