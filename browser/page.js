@@ -10,6 +10,8 @@ const MOST_MODEL_BYTES = 50000084;
 const PAUSE = 200, LONG_PAUSE = 900;
 // The most lines that are marked as ones that weren't tried, and the most faults that are listed.
 const MOST_MARKED = 20000, MOST_FAULTS = 500;
+// The most steps that may be asked for, and how many are at first.
+const MOST_STEPS = 1000000000, MOST_AT_FIRST = 1000000;
 // The most steps of a run whose measured points are counted for the verdict.
 const MOST_COUNTED = 100000;
 // A program that moves nothing: with it the part is shown while there is no run.
@@ -34,7 +36,7 @@ function note(text) {
 
 // Which of the texts a file is, by what stands in it.
 function kindOf(name, text) {
-  if (/^\s*\[\[\s*box\s*\]\]/m.test(text)) return "probe";
+  if (/^\s*\[\[\s*(box|probe)\s*\]\]/m.test(text)) return "probe";
   return /\.toml$/i.test(name) || /^\s*home\s*=\s*\[|^\s*\[\[\s*block\s*\]\]/m.test(text) ? "part" : "program";
 }
 
@@ -46,7 +48,7 @@ class Page {
     this.part = new Editor("part", "part.toml", "toml");
     this.probe = new Editor("probe", "", "toml");
     for (const it of texts) this[it].whenNamed = () => this.nameTabs();
-    this.viewer = new Viewer($("frames"), (line) => this.stepped(line));
+    this.viewer = new Viewer($("frames"), (line) => this.stepped(line), (line) => this.goTo("program", line));
     this.finder = new Finder(() => this[this.tab]);
     this.drawing = new Drawing($("drawing"));
     this.form = new WholeForm($("whole"), $("tried"), (it) => this.setWhole(it), () => this.setWhole(null), (line) => this.goTo("program", line));
@@ -84,7 +86,11 @@ class Page {
     return new Set(Object.values(names)).size === 3 ? names : { program: "program.dmi", part: "part.toml", probe: "probe.toml" };
   }
   get given() {
-    return { ...this.names, steps: $("limit").value };
+    return { ...this.names, steps: String(this.limit <= MOST_STEPS ? this.limit : MOST_AT_FIRST) };
+  }
+  // The most steps of a run, as the field has them: a whole number, with or without commas between its digits.
+  get limit() {
+    return /^\d[\d, ]*$/.test($("limit").value.trim()) ? Number($("limit").value.replace(/\D/g, "")) : NaN;
   }
   get files() {
     return Object.fromEntries(texts.map((it) => [this.names[it], encoder.encode(this[it].text)]));
@@ -128,12 +134,12 @@ class Page {
   async asked(ask) {
     const given = this.given, ran = await ask(this.words("run")), part = await ask(["part", given.part]);
     const judged = this.whole ? { told: "" } : await ask(this.words("check"));
-    const why = ran.status === 3 ? readWhy((await ask(this.words("why"))).text) : { calls: [], rounds: [] };
+    const whyText = ran.status === 3 ? (await ask(this.words("why"))).text : "", why = readWhy(whyText);
     const clearance = this.hasProbe ? await ask(this.words("clearance")) : null;
     const survey = !this.whole && isAdapted(this.program.text) ? await this.surveyed(ask) : "";
     const brought = !this.whole && !hasRun(ran) ? await ask(["check", "--whole", given.program]) : null;
     const tried = this.whole && hasRun(ran) ? await ask(this.words("trace")) : null;
-    return { ran, part, judged, why, clearance, survey, brought, tried };
+    return { ran, part, judged, why, whyText, clearance, survey, brought, tried };
   }
   // What `vcm survey` says of the text that an adapted one came from.
   async surveyed(ask) {
@@ -149,17 +155,20 @@ class Page {
     const notices = noticesOf(ran.told).map((it) => it.line), steps = Number((/^steps (\d+)$/m.exec(ran.text) || [])[1] || 0);
     // a box that meets a block before the tip does is told first; one that meets it behind the stop isn't
     const isMet = met && (ran.status !== 3 || met.step <= steps);
-    const verdict = verdictOf({ faults, failed, stop, why, untried, adapted: adaptedLines(this.program.text), unused, meaning, met: isMet ? met : null, metName: isMet && this.nameOfBlock(met.block), steps: this.given.steps, ran: { status: ran.status, steps, notices, measured: await this.measured(ran, steps, ask) } });
-    this.mark({ faults, stop, why, untried, unused, notices, met: isMet ? met : null });
+    const beyond = clearance ? firstBeyondOf(clearance.text) : 0, lost = clearance && lostOf(clearance.text);
+    const verdict = verdictOf({ beyond, lost, faults, failed, stop, why, untried, adapted: adaptedLines(this.program.text), unused, meaning, met: isMet ? met : null, metName: isMet && this.nameOfBlock(met.block), steps: this.given.steps, ran: { status: ran.status, steps, notices, measured: await this.measured(ran, steps, ask) } });
+    this.mark({ faults, stop, why, untried, unused, notices, met: isMet ? met : null, other: lost ? { line: lost.line, message: `no probe has the number ${lost.value}` } : beyond ? { line: beyond, message: "the pivot goes beyond its limits" } : null });
     this.showFaults(faults);
     this.showMeaning(meaning, faults.length > 0);
     this.showWhy(stop, why, blockLines);
     this.form.tell(this.triedText(asked.tried), untried);
     this.isTold = true;
-    $("bring").hidden = !(asked.brought && asked.brought.status === 0 && faults.some((it) => it.which === "program"));
+    const canBring = Boolean(asked.brought && asked.brought.status === 0 && faults.some((it) => it.which === "program"));
+    $("bring").hidden = !canBring;
+    if (canBring) verdict.detail.push("it may be the text of another system: Bring it in runs it as it stands, and tells what is tried of it");
     this.tellVerdict(verdict);
     await this.showAnswer(ran, ask);
-    await this.show(ran, part, ask);
+    await this.show(asked, ask);
   }
   faultsOf({ ran, part, judged, clearance }) {
     const own = this.whole ? ran.told : judged.told, broken = partFaultOf(part.told), of = (which, list) => list.map((it) => ({ ...it, which }));
@@ -173,7 +182,7 @@ class Page {
     // a probe that is refused in other words is at fault too
     if (clearance && hasRun(ran) && !hasRun(clearance) && inProbe.length === 0) inProbe.push({ text: clearance.told.trim().split("\n")[0], code: "", statement: "", which: "probe" });
     for (const it of inProbe) {
-      it.lines = it.place === "box" ? linesOfBlock(this.probe.text, it.number) : it.place === "line" ? [it.number] : [];
+      it.lines = linesOfProbe(this.probe.text, it);
       it.line = it.lines[0];
     }
     const inProgram = of("program", faultsOf(own).filter((it) => !"PB".includes(it.code[0])));
@@ -198,7 +207,7 @@ class Page {
     const told = text === "" ? { status: 1 } : await ask(["explain", ...explained(text)]);
     return told.status === 0 ? flowing(told.text) : "";
   }
-  async show(ran, part, ask) {
+  async show({ ran, part, whyText }, ask) {
     const isRun = hasRun(ran), isBare = !isRun && this.run === null;
     $("page-save").disabled = !isRun;
     $("old").hidden = isRun;
@@ -213,22 +222,22 @@ class Page {
     if (rest > 0) await new Promise((done) => setTimeout(done, rest));
     if (turn !== this.turn) return;
     // where the probe's text is refused the run is shown without its boxes
-    if (!isBare && !hasRun(page)) return this.showWithoutBoxes(ask);
+    if (!isBare && !hasRun(page)) return this.showWithoutBoxes(whyText, ask);
     this.run = isBare ? null : page.out;
-    this.viewer.show(page.text, isBare);
+    this.viewer.show(page.text, whyText, isBare);
   }
-  async showWithoutBoxes(ask) {
+  async showWithoutBoxes(whyText, ask) {
     const page = await ask(this.viewWords);
     if (!hasRun(page)) return;
     this.run = page.out;
-    this.viewer.show(page.text);
+    this.viewer.show(page.text, whyText);
   }
   async showAnswer(ran, ask) {
     const command = $("command").value, it = commands[command], isWanting = it.needsProbe && !this.hasProbe;
     const answer = isWanting ? { text: "", told: "Write the boxes of a probe first, in the tab Probe.", out: new Uint8Array(0), status: 1 } : command === "run" ? ran : await ask(this.words(command));
     this.answer = answer;
     const isDrawn = it.isDrawing && answer.out.length > 0, [out, err] = [isDrawn ? "" : answer.text, answer.told].map(shown), left = out.length - MOST_SHOWN;
-    $("answer").textContent = (left > 0 ? out.slice(0, MOST_SHOWN) + `\n(${left} more characters; Save has them all)\n` : out) + err;
+    $("answer").textContent = (left > 0 ? out.slice(0, MOST_SHOWN) + `\n(${left.toLocaleString("en")} more characters; Save has them all)\n` : out) + err;
     this.drawing.show(isDrawn ? answer.out : null);
     $("answer-save").disabled = answer.out.length === 0;
     $("answer-take").hidden = command !== "adapt" || answer.out.length === 0;
@@ -247,11 +256,12 @@ class Page {
     $("to-line").textContent = `Go to line ${verdict.line}` + (verdict.which === "program" ? "" : ` of the ${verdict.which}`);
     $("to-contact").hidden = !verdict.contact;
   }
-  mark({ faults, stop, why, untried, unused, notices, met }) {
+  mark({ faults, stop, why, untried, unused, notices, met, other }) {
     const of = (which) => faults.filter((it) => it.which === which).flatMap((it) => it.lines.slice(0, 1000).map((line, i) => ({ line, message: i ? "" : it.text + (which === "program" ? "" : ": " + it.statement), word: this.wordOf(it) })));
     const bad = of("program");
     if (stop.line && stop.word !== "ENDED") bad.push({ line: stop.line, word: why.statement, message: stop.block ? `meets ${blockText(stop.block, why.name)}` + (why.free ? `; free ${capitals(why.free)}` : "") : stop.text });
-    if (met) bad.push({ line: met.line, message: `${met.name} meets ${blockText(met.block, this.nameOfBlock(met.block))}, the tip at ${met.at}` });
+    if (other) bad.push(other);
+    if (met) bad.push({ line: met.line, message: `${bodyText(met)} meets ${blockText(met.block, this.nameOfBlock(met.block))}, the ${met.kind === "SWING" ? "pivot" : "tip"} at ${met.at}` });
     this.program.mark("now", []);
     this.program.mark("notice", notices.map((line) => ({ line })));
     this.program.mark("skipped", untried.flatMap((it) => it.lines.map((line) => ({ line, message: (it.kind === "from" ? it.text : it.kind) + (it.cause && it.kind !== "from" ? ": " + it.cause : "") }))).slice(0, MOST_MARKED));
@@ -278,7 +288,9 @@ class Page {
       item.append(button);
       buttons.push(item);
     }
-    if (faults.length > MOST_FAULTS) buttons.push(element("li", `${faults.length - MOST_FAULTS} more`, "name"));
+    // of a text with faults in lines all of these are told, but what is found where lines work together is told once these are mended
+    if (faults.some((it) => it.which === "program" && it.place === "line")) buttons.push(element("li", "others may follow once these are mended", "name"));
+    if (faults.length > MOST_FAULTS) buttons.push(element("li", `${(faults.length - MOST_FAULTS).toLocaleString("en")} more`, "name"));
     list.replaceChildren(...buttons);
     list.hidden = buttons.length === 0;
     if (buttons.length) buttons[0].append($("meaning"));
@@ -380,28 +392,28 @@ class Page {
     if (isOpened || whole === null) return this.afresh();
     return this.soon();
   }
-  // A triangle mesh becomes the text of the part, by `vcm blocks`.
-  async openModel(file) {
+  // A file from which vcm makes one of the texts: a triangle mesh becomes the part, a description of head and styli the probes.
+  async openMade(command, file, which, ending) {
     if (file.size > MOST_MODEL_BYTES) {
-      note(`${file.name} has more than ${MOST_MODEL_BYTES} bytes: vcm reads no more of a model.`);
+      note(`${file.name} has more than ${MOST_MODEL_BYTES.toLocaleString("en")} bytes: vcm reads no more of a model.`);
       return;
     }
-    const name = file.name.replace(/^-+/, "") || "model.stl", turn = ++this.turn;
+    const name = file.name.replace(/^-+/, "") || "model", turn = ++this.turn;
     this.vcm.end();
     this.began = performance.now();
     this.busy(true);
-    const made = await this.vcm.call(["blocks", name], { [name]: new Uint8Array(await file.arrayBuffer()) });
+    const made = await this.vcm.call([command, name], { [name]: new Uint8Array(await file.arrayBuffer()) });
     if (made.isEnded || turn !== this.turn) return;
     this.busy(false);
     if (made.fault !== undefined) return this.tellVerdict(verdictOf({ failed: "vcm did not answer: " + made.fault }));
     const told = decoder.decode(made.err).trim().split("\n").join("; ");
     if (made.status === 0) {
-      this.part.take(decoder.decode(made.out), name.replace(/\.\w+$/, "") + ".toml");
+      this[which].take(decoder.decode(made.out), name.replace(/\.\w+$/, "") + ending);
       $("example").value = "";
-      this.open("part");
+      this.open(which);
       this.afresh();
     }
-    note(shown(`${file.name}: ${told}`));
+    note(shown(`${file.name}: ${told || "its probes, as vcm probe makes them"}`));
   }
   async openFiles(files) {
     note("");
@@ -410,10 +422,11 @@ class Page {
     if (taken) this.afresh();
   }
   async openFile(file) {
-    if (/\.stl$/i.test(file.name)) return void (await this.openModel(file));
-    if (file.size > MOST_BYTES) return void note(`${file.name} has more than ${MOST_BYTES} bytes: vcm reads no more.`);
+    if (/\.stl$/i.test(file.name)) return void (await this.openMade("blocks", file, "part", ".toml"));
+    if (file.size > MOST_BYTES) return void note(`${file.name} has more than ${MOST_BYTES.toLocaleString("en")} bytes: vcm reads no more.`);
     const bytes = new Uint8Array(await file.arrayBuffer()), text = decoder.decode(bytes);
     if (text.startsWith("VCMI")) return void note(`${file.name} is an image of a program. This page takes texts.`);
+    if (/^\s*\[\[\s*tip\s*\]\]/m.test(text)) return void (await this.openMade("probe", file, "probe", "-probes.toml"));
     const which = kindOf(file.name, text);
     this[which].take(text, file.name);
     if (which === "program") this.whole = null;
@@ -476,7 +489,12 @@ class Page {
     $("example").onchange = () => this.changeExample();
     $("command").replaceChildren(...Object.keys(commands).map((it) => new Option("vcm " + (commands[it].name ? `${commands[it].name} --${it}` : it), it)));
     $("command").onchange = () => this.judge();
-    $("limit").oninput = () => $("limit").validity.valid && $("limit").value !== "" && this.soon();
+    $("limit").oninput = () => {
+      const isGood = this.limit <= MOST_STEPS;
+      $("limit").setCustomValidity(isGood ? "" : "a whole number up to 1,000,000,000");
+      if (isGood) this.soon();
+    };
+    $("limit").onchange = () => ($("limit").value = (this.limit <= MOST_STEPS ? this.limit : MOST_AT_FIRST).toLocaleString("en"));
     $("stop").onclick = () => this.halt();
     $("to-line").onclick = () => this.goTo(this.told.which, this.told.line);
     $("to-contact").onclick = () => {

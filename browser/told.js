@@ -11,8 +11,8 @@ function shown(text) {
 function faultsOf(text) {
   const faults = [];
   for (const line of text.split("\n")) {
-    const found = /^([A-Z]\d\d \w+)(?: (line|block|box) (\d+))?(?: \w+)?$/.exec(line);
-    if (found) faults.push({ text: line, code: found[1], place: found[2], number: Number(found[3]), statement: "" });
+    const found = /^([A-Z]\d\d \w+)(?: (line|block|box|probe|swing) (\d+))?(?: box (\d+))?(?: [\w.?-]+){0,2}$/.exec(line);
+    if (found) faults.push({ text: line, code: found[1], place: found[2], number: Number(found[3]), inner: Number(found[4] || 0), statement: "" });
     else if (line.startsWith("  ") && faults.length) faults[faults.length - 1].statement = line.trim();
   }
   return faults;
@@ -36,14 +36,24 @@ function partFaultOf(text) {
 // The lines on which the blocks of a part stand, from what `vcm part` prints.
 const blockLinesOf = (text) => new Map([...text.matchAll(/^block (\d+) line (\d+) /gm)].map((it) => [Number(it[1]), Number(it[2])]));
 
-// The lines on which a block of a part, or a box of a probe, stands: those up to the next table.
-function linesOfBlock(text, block) {
-  const lines = text.split("\n"), heads = lines.flatMap((it, i) => (/^\s*\[\[\s*(block|box)\s*\]\]/.test(it) ? [i] : []));
-  const from = heads[block - 1];
+// The lines on which a table of an array stands, as a block of a part or a box of a probe, from a line on: those up to the next table.
+function linesOfTable(text, name, number, first = 0) {
+  const lines = text.split("\n"), heads = lines.flatMap((it, i) => (i >= first && it.replace(/\s|#.*/g, "") === `[[${name}]]` ? [i] : []));
+  const from = heads[number - 1];
   if (from === undefined) return [];
   let to = from + 1;
   while (to < lines.length && !/^\s*(\[|$)/.test(lines[to])) to++;
   return lines.slice(from, to).map((_, i) => from + i + 1);
+}
+
+const linesOfBlock = (text, block) => linesOfTable(text, "block", block);
+
+// The lines of what is at fault in the file of a probe, or of several.
+function linesOfProbe(text, { place, number, inner }) {
+  if (place === "line") return [number];
+  if (place !== "probe") return place ? linesOfTable(text, place, number) : [];
+  const own = linesOfTable(text, "probe", number);
+  return inner && own.length ? linesOfTable(text, "probe.box", inner, own[0]) : own;
 }
 
 // Whether a program was run: to a stop, to the number of steps, or to its end with motions that weren't tried. Of what was printed then the line of the stop, which
@@ -116,6 +126,13 @@ function readLeftOut(survey, adapted) {
   for (const it of untried) found.push({ text: `not tried 1: lines ${it[1]}, ${it[2]}`, kind: "not tried", count: 1, lines: [Number(it[1])], cause: it[2] });
   for (const it of survey.matchAll(/^\s+line (\d+): the way to here begins where (.*)$/gm)) found.push({ text: it[0].trim(), kind: "begins elsewhere", count: 1, lines: [Number(it[1])], cause: "the way to here begins where " + it[2] });
   return found;
+}
+
+// Of a run with several probes the first end of a way at which the pivot lies beyond its limits, and where the run ends because no probe has the number that is asked for.
+const firstBeyondOf = (text) => (/^beyond \w+ at \d+ line (\d+) /m.exec(text) || []).slice(1).map(Number)[0] || 0;
+function lostOf(text) {
+  const found = /^no probe (\d+|-\d+) at \d+ line (\d+) /m.exec(text);
+  return found && { value: found[1], line: Number(found[2]) };
 }
 
 // The first contact of a box of the probe, from what `vcm clearance` prints.

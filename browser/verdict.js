@@ -4,6 +4,11 @@ const counted = (n, one, more) => `${n.toLocaleString("en")} ${n === 1 ? one : m
 const listed = (lines, most = 12) => [...new Set(lines)].slice(0, most).join(" ") + (new Set(lines).size > most ? ` and ${new Set(lines).size - most} more` : "");
 const linesText = (lines) => (new Set(lines).size === 1 ? "line " : "lines ") + listed(lines);
 const blockText = (block, name) => `block ${block}` + (name ? `, \u201c${name}\u201d` : "");
+// A body of the probe, of one of several, or of what turns.
+function bodyText({ name, kind }) {
+  const [probe, body] = name.split("/");
+  return kind === "SWING" ? `in its turn the head (${name})` : body ? `the ${body} of ${probe}` : `the ${name} of the probe`;
+}
 const capitals = (free) => free.replace(/\b[xyz](?= -?\d)/g, (c) => c.toUpperCase());
 
 // What wasn't tried, as sentences without their ends.
@@ -40,7 +45,7 @@ function stopDetail(stop, why, meaning) {
 }
 
 // What there is to tell of texts: `faults` of each text, or how the run ended, with what wasn't tried, keys that nothing uses and the first contact of a box.
-function verdictOf({ faults, ran, stop, why, untried, unused, met, metName, meaning, failed, steps, adapted }) {
+function verdictOf({ faults, ran, stop, why, untried, unused, met, metName, beyond, lost, meaning, failed, steps, adapted }) {
   if (failed) return { kind: "bad", sign: "\u2715", headline: failed, detail: [] };
   if (faults.length) {
     const first = faults[0], of = { program: "the program", part: "the part", probe: "the probe" }[first.which];
@@ -51,7 +56,11 @@ function verdictOf({ faults, ran, stop, why, untried, unused, met, metName, mean
   const left = unused.map((it) => `line ${it.line} of the part: ${it.text}`);
   if (met) {
     const tip = ran.status === 3 ? stopHeadline(stop, why) : "the tip itself meets nothing";
-    Object.assign(told, { kind: "bad", sign: "\u2715", headline: `Line ${met.line}: the ${met.name} of the probe meets ${blockText(met.block, metName)}`, line: met.line, contact: true, detail: [`in its ${met.kind.toLowerCase()}, the tip at ${met.at}`, tip, ...end, ...left] });
+    Object.assign(told, { kind: "bad", sign: "\u2715", headline: `Line ${met.line}: ${bodyText(met)} meets ${blockText(met.block, metName)}`, line: met.line, contact: true, detail: [met.kind === "SWING" ? `the pivot at ${met.at}` : `in its ${met.kind.toLowerCase()}, the tip at ${met.at}`, tip, ...end, ...left] });
+  } else if (lost) {
+    Object.assign(told, { kind: "bad", sign: "\u2715", headline: `Line ${lost.line}: no probe has the number ${lost.value}`, line: lost.line, detail: ["no motion goes with a probe that the file of the probes doesn't have", ...measured, ...end, ...left] });
+  } else if (beyond && ran.status !== 3) {
+    Object.assign(told, { kind: "bad", sign: "\u2715", headline: `Line ${beyond}: the pivot of the head goes beyond its limits`, line: beyond, detail: [...measured, ...end, ...left] });
   } else if (ran.status === 3) {
     Object.assign(told, { kind: "bad", sign: "\u2715", headline: stopHeadline(stop, why), line: stop.line, contact: true, detail: [...stopDetail(stop, why, meaning), ...measured.map((it) => it + " before"), ...end, ...left] });
   } else if (ran.status === 4) {

@@ -2,22 +2,23 @@
 // place once it is there, with what was chosen in the old one: the step, unless that was the one it had opened at, the view, what is in view, and whether the state is shown.
 
 class Viewer {
-  constructor(box, whenStepped) {
+  constructor(box, whenStepped, whenLine) {
     this.box = box;
     this.whenStepped = whenStepped;
+    this.whenLine = whenLine;
     this.frame = null;
     this.coming = null;
     this.watch = new MutationObserver(() => this.stepped());
     // what is dragged over the frame is the page's
     this.whenDragged = () => {};
   }
-  // Shows the page of a run; `isBare` where it has the part alone, and no run.
-  show(page, isBare = false) {
+  // Shows the page of a run, with what `vcm why` tells of it; `isBare` where it has the part alone, and no run.
+  show(page, why = "", isBare = false) {
     if (this.coming) this.coming.remove();
     const frame = document.createElement("iframe");
     frame.title = isBare ? "The part" : "The run, step by step";
     frame.className = "coming";
-    frame.srcdoc = page.replace('<html lang="en">', `<html lang="en" class="framed${isBare ? " bare" : ""}">`);
+    frame.srcdoc = withWhy(page, why).replace('<html lang="en">', `<html lang="en" class="framed${isBare ? " bare" : ""}">`);
     frame.onload = () => this.come(frame, isBare);
     this.coming = frame;
     this.box.append(frame);
@@ -30,6 +31,7 @@ class Viewer {
     this.frame = frame;
     this.isBare = isBare;
     this.coming = null;
+    frame.contentDocument.addEventListener("line", (event) => this.whenLine(event.detail));
     for (const kind of ["dragover", "drop"]) frame.contentWindow.addEventListener(kind, (event) => this.whenDragged(event));
     frame.className = "";
     this.watch.disconnect();
@@ -63,6 +65,13 @@ class Viewer {
     this.frame.focus();
     this.frame.contentDocument.getElementById("slider").focus();
   }
+}
+
+// A page with an element that says why its run stops, before its script, unless it has one. Of the text `<` and `%`, and what is no letter of ASCII, stand as the bytes that they are.
+function withWhy(page, why) {
+  const at = page.lastIndexOf("\n<script>"), spelled = why.replace(/[^\n -~]|[<%]/gu, (it) => [...encoder.encode(it)].map((byte) => "%" + byte.toString(16).toUpperCase().padStart(2, "0")).join(""));
+  if (why === "" || at < 0 || page.includes('<script type="text/plain" id="why">')) return page;
+  return `${page.slice(0, at)}\n<script type="text/plain" id="why">\n${spelled}<\/script>${page.slice(at)}`;
 }
 
 // What is chosen in a page of a run.

@@ -7,7 +7,7 @@
 import base64, hashlib, os, subprocess, sys, tempfile
 
 TOP = os.path.dirname(os.path.dirname(os.path.abspath(__file__)))
-SCRIPTS = ["data.js", "words.js", "elements.js", "drawing.js", "solid.js", "profile.js", "listing.js", "panel.js", "stage.js", "page.js"]
+SCRIPTS = ["data.js", "probes.js", "words.js", "elements.js", "drawing.js", "solid.js", "profile.js", "listing.js", "why.js", "panel.js", "stage.js", "page.js"]
 # The most bytes of a literal: what a function with a constant costs the prover grows with the square of its size.
 MOST = 2048
 

@@ -96,7 +96,7 @@ function readRun(text) {
   const run = {
     low: null, high: null, home: null, tip: 0, blocks: [], names: new Map(), lines: [], code: [], notices: [], from: 0, listed: null, aims: new Map(),
     variables: new Map(), settings: new Map(), nominal: new Map(), actual: new Map(), frame: new Changes(null),
-    output: new Changes(null), touches: [], contact: null, stop: null, open: null, counts: new Map(), boxes: [], untried: null,
+    output: new Changes(null), touches: [], contact: null, stop: null, open: null, counts: new Map(), boxes: [], probes: null, turns: new Map(), metSteps: new Map(), beyond: [], lost: null, untried: null, adapted: null, why: null,
   };
   const statement = new Numbers(Uint32Array), line = new Numbers(Uint32Array), position = new Numbers(Float64Array);
   const done = [""], pieceFrom = new Numbers(Uint32Array);
@@ -231,25 +231,18 @@ function readUntried(run, text) {
   countSteps(run, (k) => (k === 1 || rowAt(run, k) !== rowAt(run, k - 1) || run.statement[k] <= run.statement[k - 1]) && !isEnd(k));
 }
 
+// Whether a text is one that `vcm adapt` wrote: behind `$$- ` stands what the producer's text had in a line. How many such lines there are, and on which of them a statement is left out that
+// moves the probe, or leads to one that may.
+const MOVING = /^\s*\$\$- (.*=\s*)?(GOTO|GOHOME|PTMEAS|PAMEAS|RMEAS|ROTAB|ROTATE|CALL|EXTFIL|SNSLCT)\b/i;
+function readAdapted(run) {
+  const count = run.lines.filter((it) => it.includes("$$- ")).length;
+  if (run.untried === null && count) run.adapted = { count, lines: run.lines.flatMap((it, i) => (MOVING.test(it) ? [i + 1] : [])) };
+}
+
 // The first piece of a step begins elsewhere.
 function beginElsewhere(run, step) {
   const i = run.pieceFrom[step];
   if (i < run.pieceFrom[step + 1] && run.kinds[i] !== "x") run.kinds[i] = "e";
-}
-
-// The boxes of a probe, from lines `Q NAME LOW HIGH`, each with its contacts in the run and with how much room is left round it, from the lines of its clearance.
-function readBoxes(run, text) {
-  const named = (name) => run.boxes.find((it) => it.name === name);
-  for (const row of text.split("\n")) {
-    const words = row.split(" ");
-    if (words[0] === "Q") run.boxes.push({ name: words[1], low: words.slice(2, 5).map(Number), high: words.slice(5, 8).map(Number), contacts: [] });
-    if (words[0] === "box" && words[2] === "clear") named(words[1]).room = Number(words[3]);
-    if (words[0] !== "contact") continue;
-    const [, name, kind, , block, , permille, , , , line, , step, , x, y, z] = words;
-    const contact = { name, kind, block: Number(block), permille: Number(permille), line: Number(line), step: Number(step) - run.from, at: [x, y, z].map(micrometres) };
-    named(name).contacts.push(contact);
-    if (!run.firstMet || contact.step < run.firstMet.step) run.firstMet = contact;
-  }
 }
 
 // The names of blocks, from lines `K NUMBER NAME`.
@@ -292,19 +285,7 @@ function millimetres(x) {
   return (x < 0 ? "-" : "") + Math.floor(size / 1000) + "." + String(size % 1000).padStart(3, "0");
 }
 
-// the contacts of the probe's boxes in a step, each with its box
-const contactsIn = (run, k) => run.boxes.flatMap((box) => box.contacts.filter((it) => it.step === k).map((contact) => ({ box, contact })));
-
-// the blocks that are met in a step, by the tip or by a box of the probe
-const metIn = (run, k) => [...new Set([...(run.contact && run.contact.step === k ? [run.contact.block] : []), ...contactsIn(run, k).map((it) => it.contact.block)])];
-
-// where the tip is shown behind a step: where it, or a box that is fixed to it, met a block first
-function shownAt(run, k) {
-  const met = contactsIn(run, k)[0];
-  return met ? met.contact.at : run.contact && run.contact.step === k ? run.contact.at : positionAt(run, k);
-}
-
 // steps that move the probe or print
 function isEvent(run, k) {
-  return run.pieceFrom[k + 1] > run.pieceFrom[k] || /^(output|stop) /.test(run.done[k]);
+  return run.pieceFrom[k + 1] > run.pieceFrom[k] || turnIn(run, k) !== undefined || /^(output|stop) /.test(run.done[k]);
 }

@@ -11,10 +11,12 @@ class Listing {
     this.noticed = new Map(run.notices.map((it) => [it.line, it.word]));
     // lines of which something wasn't tried, each with what
     this.untried = new Map([...(run.untried ? run.untried.lines : [])].map(([line, all]) => [line, all.map((it) => it.text + (it.count > 1 ? `, ${it.count} times` : "")).join("; ")]));
+    for (const line of run.adapted ? run.adapted.lines : []) this.untried.set(line, "left out by vcm adapt: not tried");
     this.touching = new Set(run.touches.map((it) => rowAt(run, it.step)));
     // lines in which a box of the probe meets a block, each with what it meets
     this.meeting = new Map(run.boxes.flatMap((own) => own.contacts.filter((it) => it.step > 0).map((it) => [rowAt(run, it.step), metText(run, own, it)])).reverse());
     this.rows = new Map();
+    this.pointed = 0;
     this.marked = [];
     this.pieces = [];
     const longest = run.lines.reduce((most, it) => Math.max(most, it.length), 0), all = document.createDocumentFragment();
@@ -67,6 +69,7 @@ class Listing {
   row(n) {
     const { run } = this, row = element("div", undefined, "line"), times = run.counts.get(n), isStop = n === this.stopLine || this.meeting.has(n);
     row.dataset.line = n;
+    if (n === this.pointed) row.classList.add("pointed");
     const [text, kind, title] = isStop ? ["\u2715", " stop", n === this.stopLine ? run.stop.text : this.meeting.get(n)] : this.untried.has(n) ? ["?", " untried", this.untried.get(n)] : this.touching.has(n) ? ["\u25cf", " touch", "measures"] : this.noticed.has(n) ? ["!", " notice", this.noticed.get(n) + " has no effect"] : ["", "", ""];
     const sign = element("span", text, "sign" + kind);
     if (title) sign.title = title;
@@ -103,6 +106,7 @@ class Listing {
   // Marks the line of a step, and that of the next one.
   show(k) {
     const { run } = this, next = nextAt(run, k), line = k ? rowAt(run, k) : 0, after = next ? rowOf(run, next.statement) : 0;
+    this.unpoint();
     const before = new Set(this.marked.map((it) => it.parentElement));
     for (const row of this.marked) {
       row.classList.remove("now", "next", "bad");
@@ -125,6 +129,20 @@ class Listing {
     }
     for (const piece of before) if (piece && !this.inView.has(piece)) this.plain(piece);
     if (now || then) this.intoView(now ? line : after);
+  }
+  // Shows a line that is asked for, until the next step.
+  point(n) {
+    const row = this.rowOfLine(n);
+    this.unpoint();
+    if (!row) return;
+    this.pointed = n;
+    row.classList.add("pointed");
+    this.intoView(n);
+  }
+  unpoint() {
+    const row = this.rows.get(this.pointed);
+    if (row) row.classList.remove("pointed");
+    this.pointed = 0;
   }
   // Lines are equally high, so where one stands is known without asking for it.
   intoView(n) {

@@ -6,14 +6,16 @@
     run = readRun($("run").textContent);
     if ($("block-names")) readNames(run, $("block-names").textContent);
     if ($("untried")) readUntried(run, $("untried").textContent);
+    readAdapted(run);
     if ($("probe-boxes")) readBoxes(run, $("probe-boxes").textContent);
+    if ($("why")) readWhy(run, $("why").textContent);
   } catch (fault) {
     $("fault").hidden = false;
     $("fault").textContent = "The run in this page cannot be read: " + fault.message + ".";
     return;
   }
 
-  const calm = matchMedia("(prefers-reduced-motion: reduce)");
+  const calm = matchMedia("(prefers-reduced-motion: reduce)"), narrow = matchMedia("(max-width: 900px)");
   // in the page for browsers, whose editor has the program and whose head has the verdict, the page of a run has the steps alone
   const isFramed = document.documentElement.classList.contains("framed");
   let now = 0, playing = false, lettersWork = true;
@@ -31,10 +33,18 @@
   if (isPartly(run)) $("not-tried").replaceChildren(...run.untried.told.map((it) => element("li", it)));
 
   const listing = isFramed ? null : new Listing(run, $("program"));
-  const panel = new Panel(run);
+  const panel = new Panel(run, showLine);
   const stage = new Stage(run, (k) => stepTo(k));
   // whether the state is in view: where it isn't, it is made once it is
   const isStateShown = () => $("state").clientHeight > 0;
+
+  // Shows a line of the text, here or, in the page for browsers, in its editor.
+  function showLine(line) {
+    document.dispatchEvent(new CustomEvent("line", { detail: line }));
+    if (!listing) return;
+    if (document.body.dataset.panel === "state" && narrow.matches) document.querySelector('.tabs [data-panel="program"]').click();
+    listing.point(line);
+  }
 
   // ---- from step to step
 
@@ -65,12 +75,13 @@
   }
   function showHere(k, probe) {
     const count = (n) => n.toLocaleString("en"), where = element("b", k ? `Step ${count(k + run.from)} of ${count(run.length + run.from)}` : "Start", metIn(run, k).length ? "bad" : "");
-    $("here").replaceChildren(where, ` \u00b7 ${tipText(run)} \u00b7 line ${k ? run.line[k] : "\u2013"}`, element("br"), element("span", probe.map(millimetres).join("  "), "mono"));
+    $("here").replaceChildren(where, ` \u00b7 ${tipText(run, k)} \u00b7 line ${k ? run.line[k] : "\u2013"}`, element("br"), element("span", probe.map(millimetres).join("  "), "mono"));
   }
 
   $("slider").max = run.length;
   $("number").min = run.from;
   $("number").max = run.length + run.from;
+  $("number").style.width = Math.max(5, String(run.length + run.from).length + 2) * 0.62 + 1.9 + "em";
   $("of").textContent = "of " + (run.length + run.from).toLocaleString("en");
 
   // Playing: a step takes the time of its way, so that the probe goes evenly; with reduced motion it goes from step to step.
@@ -152,7 +163,7 @@
   $("play").onclick = () => play(!playing);
   $("slider").oninput = () => stepTo(Number($("slider").value));
   $("number").onchange = () => stepTo(Number($("number").value) - run.from);
-  $("variables-filter").oninput = () => panel.showVariables(now);
+  $("variables-filter").oninput = () => panel.findVariables($("variables-filter").value, now);
   document.addEventListener("click", (event) => {
     const to = event.target.closest("[data-step]");
     if (to && to.tagName === "BUTTON") stepTo(Number(to.dataset.step));
@@ -213,14 +224,14 @@
 
   addEventListener("beforeprint", () => {
     if (listing) listing.forPaper(true);
-    panel.show(now);
+    panel.forPaper(true, now);
     stage.forPaper(true);
   });
   addEventListener("afterprint", () => {
     if (listing) listing.forPaper(false);
+    panel.forPaper(false, now);
     stage.forPaper(false);
   });
-  const narrow = matchMedia("(max-width: 900px)");
   if (narrow.matches || isFramed) stage.setView(stage.solid ? "solid" : "top");
   const asked = () => /^#step=(\d+)$/.exec(location.hash);
   addEventListener("hashchange", () => { if (asked()) stepTo(Number(asked()[1]) - run.from); });

@@ -12,6 +12,7 @@ class Stage {
     this.probe = run.home;
     this.isWaiting = false;
     this.later = 0;
+    this.isOnPaper = false;
     this.flat = ["top", "front", "side"].map((key) => new Sheet(run, this.canvasOf(key), key, this.camera));
     this.profile = new Profile(run, $("profile"));
     this.solid = null;
@@ -41,6 +42,7 @@ class Stage {
   makeLegend() {
     const { run } = this, legend = $("legend"), kinds = new Set(run.kinds);
     for (const kind of "measrx") if (kinds.has(kind)) legend.append(element("span", kindNames[kind], "key " + kind), " ");
+    if (run.turns.size) legend.append(element("span", "turn of the head", "key turn"), " ");
     if (run.touches.length) legend.append(element("span", "touched", "key dot"), " ");
     legend.append(element("span", "probe", "key ring"));
   }
@@ -63,7 +65,7 @@ class Stage {
     if (!fitting) return;
     let box = this.boxes[fitting];
     if (fitting === "probe") {
-      const reach = Math.max(8000, 6 * run.tip);
+      const reach = Math.max(8000, 6 * tipAt(run, this.step));
       box = { low: this.probe.map((x) => x - reach), high: this.probe.map((x) => x + reach) };
     }
     camera.centre = box.low.map((x, k) => (x + box.high[k]) / 2);
@@ -116,7 +118,7 @@ class Stage {
     this.isWaiting = true;
     requestAnimationFrame(() => {
       this.isWaiting = false;
-      this.drawNow(devicePixelRatio || 1);
+      this.drawNow(this.isOnPaper ? 3 : devicePixelRatio || 1);
     });
   }
   drawNow(ratio) {
@@ -127,16 +129,17 @@ class Stage {
   // Where a frame in space takes long, it is drawn once nothing has changed for a while.
   drawSolid(ratio) {
     clearTimeout(this.later);
+    if (this.isOnPaper) return this.solid.drawAsPicture(this.colours, this.step, this.probe, ratio);
     const now = () => this.solid.draw(this.colours, this.step, this.probe, ratio);
     if (this.solid.isSlow) this.later = setTimeout(now, 250); else now();
   }
   forPaper(is) {
     document.documentElement.classList.toggle("paper", is);
     this.colours = readColours();
+    this.isOnPaper = is;
     if (is) {
       this.before = $("views").dataset.view;
       this.setView("all");
-      if (this.solid) this.solid.draw(this.colours, this.step, this.probe, 3);
       this.drawNow(3);
     } else this.setView(this.before);
   }

@@ -162,6 +162,11 @@ def runs():
     yield case("clearance touch.dmi part-a.toml -", read("stylus.toml"), status=3, kind="lines")
     yield case("clearance chosen.dmi notes.toml heads.toml", kind="lines")
     yield case("clearance grid.dmi part-a.toml heads.toml", status=1)
+    for command in ("run", "trace", "points", "why"):
+        yield case(f"{command} chosen.dmi notes.toml --probe heads.toml", kind="lines")
+    yield case("run chosen.dmi notes.toml --probe heads.toml --show PROBE --quiet", kind="lines")
+    yield case("view chosen.dmi notes.toml --probe heads.toml", kind="page")
+    yield case("run grid.dmi part-a.toml --probe stylus.toml", status=2)
     yield case("run - -", status=2)
     yield case("run notices.dmi notes.toml --talk")
     yield case("run late.dmi part-a.toml --talk", status=1)

@@ -91,6 +91,7 @@ const HEADINGS: &[(&[u8], Heading)] = &[
     (b"story", Heading::Story),
     (b"sheet", Heading::Sheet),
     (b"whole-story", Heading::Story),
+    (b"probed-story", Heading::Story),
     (b"whole-sheet", Heading::Sheet),
     (b"shown", Heading::Plain),
     (b"notices", Heading::Notices),
@@ -286,6 +287,13 @@ const FRONTS: &[(&[u8], Front)] = &[
         b"whole-story",
         Front {
             words: "vcm view t.dmi t.toml --whole",
+            rest: Rest::Steps,
+        },
+    ),
+    (
+        b"probed-story",
+        Front {
+            words: "vcm view t.dmi t.toml --probe probe.toml",
             rest: Rest::Steps,
         },
     ),

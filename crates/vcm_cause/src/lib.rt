@@ -9,6 +9,6 @@ mod sides;
 mod watching;
 
 pub use cause::{Cause, Obstacle, cause_of};
-pub use rounds::{MOST_LOOPS, Rounds, round_of};
+pub use rounds::{MOST_LOOPS, Rounds, count_round, round_of};
 pub use sides::{FreeSide, Side};
-pub use watching::{Progress, Watched, watch};
+pub use watching::{Progress, Watched, before_steps, watch};

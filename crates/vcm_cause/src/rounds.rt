@@ -67,7 +67,7 @@ fn go_round(rounds: &mut Rounds, op: &BorrowedOp<'_>, straight: bool)
 }
 
 /// What a step does to the rounds, if it hasn't stopped: the statement has this number, and the next one that.
-pub(crate) fn count_round(
+pub fn count_round(
     rounds: &mut Rounds,
     op: &BorrowedOp<'_>,
     number: u32,

@@ -81,8 +81,8 @@ impl<P: Part> Follows<Progress> for Watcher<'_, P> {
     }
 }
 
-// Before the first step.
-fn before_steps() -> Progress
+/// What is known before the first step.
+pub fn before_steps() -> Progress
     ensures { seen result ≡ before_steps }
 {
     let marks = StepMarks::Zero;

@@ -14,6 +14,8 @@ mod judged;
 mod off_place;
 mod producing;
 mod program;
+mod set_pages;
+mod set_views;
 mod several;
 mod telling;
 mod whole;

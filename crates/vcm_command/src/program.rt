@@ -9,7 +9,7 @@ use crate::hardware::probe_file;
 use crate::judge::judge_programs;
 use crate::off_place::show_places;
 use crate::producing::{adapt_file, survey_file};
-use crate::several::show_cleared;
+use crate::several::{probe_named, show_probed};
 use crate::whole::show_whole;
 use clap::Error;
 use clap::error::ErrorKind;
@@ -97,7 +97,22 @@ fn carry_out<R: Files + Input + Print + Eprint + AllocGlobal>(
             return fails(rt, WANTS_WHOLE);
         }
     }
+    match probe_named(request) {
+        Some(probe) => show_probed(rt, voice, request, probe),
+        None => carry_out_alone(rt, voice, request, words),
+    }
+}
+
+// The same where no probe file is named.
+fn carry_out_alone<R: Files + Input + Print + Eprint + AllocGlobal>(
+    rt: &R,
+    voice: Voice,
+    request: &Request<'_, '_>,
+    words: &[String],
+) -> u8 {
     match request.verb() {
+        // It names one.
+        Verb::Clearance => fails(rt, Message::Usage),
         Verb::Check => check_programs(rt, voice, request),
         Verb::Survey => survey_file(rt, voice, request),
         Verb::Adapt => adapt_file(rt, voice, request),
@@ -108,7 +123,6 @@ fn carry_out<R: Files + Input + Print + Eprint + AllocGlobal>(
         Verb::Trace => show_view(rt, voice, &View::Trace, request),
         Verb::Margin => show_view(rt, voice, &View::Margin, request),
         Verb::Points => show_points(rt, voice, request),
-        Verb::Clearance => show_cleared(rt, voice, request),
         Verb::Picture => show_picture(rt, voice, request),
         Verb::View => show_page(rt, voice, request),
         Verb::Part => show_part(rt, voice, request),

@@ -1,19 +1,24 @@
-//! The clearance of a probe, or of several, one of which a program chooses at a time: with several the head turns between steps.
+//! Runs with the probe of a file, or with several, one of which a program chooses at a time: with several the head turns between steps.
 
+use crate::set_pages::print_set_page;
+use crate::set_views::{print_told, tell_untried_boxes};
 use crate::whole_views::print_plain;
 use std::alloc::Global;
 use std::rt::Files;
 use vcm_boxes::{Boxes, read_boxes};
 use vcm_devices::{
     NamedSetting, Request, Unread, View, Voice, bytes_of, fails, fails_in_view, fails_twice,
-    fails_unless_closed, named_setting_of, print_bytes, status_after, tell_unread,
+    fails_unless_closed, named_setting_of, print_bytes, show_page_with, status_after, tell_unread,
 };
 use vcm_job::{Done, Given, InputRefusal, RunFault, given_of, status_of};
 use vcm_loader::{Loaded, load};
 use vcm_messages::{Message, message_of};
 use vcm_probe_set::{ProbeSet, ProbeSetFault, is_of_several, read_probes, why_unfit};
 use vcm_set_clearance::{SetFault, SetRun, SetText, run_set, set_text};
+use vcm_set_views::fit;
+use vcm_spec::StopPlace;
 use vcm_turning::Ended;
+use vcm_usage::{Choice, Rest, Verb};
 use vcm_views::Clearance;
 
 // Tells in which file a refusal is, where that is told, and gives the exit status of a refusal.
@@ -35,36 +40,51 @@ fn tell_set_fault<R: Eprint>(rt: &R, voice: Voice, fault: &ProbeSetFault, name: 
     }
 }
 
+/// What is asked for: a run of this input with these probes, of a file of this name.
+#[derive(Clone, Copy)]
+pub(crate) struct Asked<'a> {
+    pub(crate) setting: &'a NamedSetting,
+    pub(crate) set: &'a ProbeSet,
+    pub(crate) probe: &'a str,
+    pub(crate) input: &'a str,
+}
+
 // Tells why a run with several probes wasn't done, and gives the exit status.
-fn tell_run_fault<R: Eprint>(
-    rt: &R,
-    voice: Voice,
-    fault: SetFault,
-    set: &ProbeSet,
-    request: &Request<'_, '_>,
-) -> u8 {
+fn tell_run_fault<R: Eprint>(rt: &R, voice: Voice, fault: SetFault, asked: &Asked<'_>) -> u8 {
     match fault {
         SetFault::NoMemory => fails(rt, Message::NoMemory),
         SetFault::Unfit(unfit) => {
             let _ = eprintln!(rt; "{unfit}");
-            in_file(rt, voice, request.probe())
+            in_file(rt, voice, asked.probe)
         }
         SetFault::NoVariable => {
-            let name = std::str::from_utf8(set.variable().as_bytes()).unwrap_or("?");
+            let name = std::str::from_utf8(asked.set.variable().as_bytes()).unwrap_or("?");
             let _ = eprintln!(rt; "B12 NoVariable {name}");
-            in_file(rt, voice, request.input())
+            in_file(rt, voice, asked.input)
         }
     }
 }
 
-// The exit status of a run with several probes.
+// Tells that of a file of one probe nothing is used here, and gives the exit status.
+fn tell_one_probe<R: Eprint>(rt: &R) -> u8 {
+    let _ = eprintln!(rt; "this file has one probe: vcm clearance tries it");
+    2
+}
+
+/// The exit status of a run with several probes that ended so.
+pub(crate) fn status_at(end: Ended, stop: Option<StopPlace>) -> u8 {
+    match end {
+        Ended::Lost(_) => 3,
+        _ => status_of(stop),
+    }
+}
+
+// The same where a body met a block, or didn't.
 fn status_with(run: &SetRun, is_met: bool) -> u8 {
     if is_met {
-        return 3;
-    }
-    match run.end {
-        Ended::Lost(_) => 3,
-        _ => status_of(run.stop),
+        3
+    } else {
+        status_at(run.end, run.stop)
     }
 }
 
@@ -98,37 +118,58 @@ fn print_run<R: Print + Eprint + AllocGlobal>(
     }
 }
 
-// Runs a loaded code with several probes, and prints what that came to, likewise.
-fn show_loaded<R: Print + Eprint + AllocGlobal>(
+// Runs a loaded code with several probes, and prints their clearance, likewise.
+fn print_clearance<R: Print + Eprint + AllocGlobal>(
     rt: &R,
     voice: Voice,
-    request: &Request<'_, '_>,
-    setting: &NamedSetting,
-    set: &ProbeSet,
+    asked: &Asked<'_>,
     loaded: &Loaded<'_>,
 ) -> Result<u8, u8> {
     let alloc = rt.alloc();
-    match run_set(alloc, loaded, set, &setting.part, setting.steps) {
-        Ok(run) => match text_of(alloc, loaded, set, setting, &run) {
+    let setting = asked.setting;
+    match run_set(alloc, loaded, asked.set, &setting.part, setting.steps) {
+        Ok(run) => match text_of(alloc, loaded, asked.set, setting, &run) {
             Some(told) => print_run(rt, &told, &run),
             None => Err(fails(rt, Message::NoMemory)),
         },
-        Err(fault) => Err(tell_run_fault(rt, voice, fault, set, request)),
+        Err(fault) => Err(tell_run_fault(rt, voice, fault, asked)),
+    }
+}
+
+// Runs a loaded code with several probes, and prints what a command tells of it, likewise.
+fn print_loaded<R: Print + Eprint + AllocGlobal>(
+    rt: &R,
+    voice: Voice,
+    request: &Request<'_, '_>,
+    asked: &Asked<'_>,
+    given: &Given,
+    loaded: &Loaded<'_>,
+) -> Result<u8, u8> {
+    if request.verb() == Verb::Clearance {
+        return print_clearance(rt, voice, asked, loaded);
+    }
+    let setting = asked.setting;
+    let fitted = match fit(rt.alloc(), loaded, asked.set, &setting.part) {
+        Ok(fitted) => fitted,
+        Err(fault) => return Err(tell_run_fault(rt, voice, fault, asked)),
+    };
+    match request.verb() {
+        Verb::View => print_set_page(rt, asked, &fitted, given, loaded),
+        _ => print_told(rt, request, setting, &fitted, given),
     }
 }
 
 // The same of an image.
-fn show_image<R: Print + Eprint + AllocGlobal>(
+fn print_image<R: Print + Eprint + AllocGlobal>(
     rt: &R,
     voice: Voice,
     request: &Request<'_, '_>,
-    setting: &NamedSetting,
-    set: &ProbeSet,
-    image: &[u8],
+    asked: &Asked<'_>,
+    given: &Given,
 ) -> Result<u8, u8> {
-    let input = request.input();
-    match load(rt.alloc(), image) {
-        Ok(loaded) => show_loaded(rt, voice, request, setting, set, &loaded),
+    let input = asked.input;
+    match load(rt.alloc(), &given.image) {
+        Ok(loaded) => print_loaded(rt, voice, request, asked, given, &loaded),
         Err(fault) => {
             let message = message_of(RunFault::Refused(InputRefusal::Image(fault)), input);
             Err(fails_in_view(rt, voice, message, input))
@@ -136,17 +177,24 @@ fn show_image<R: Print + Eprint + AllocGlobal>(
     }
 }
 
-// Runs what was given with several probes, prints what that came to, and gives the exit status.
+// Whether a command tries the boxes of the probes.
+fn tries_boxes(verb: Verb) -> bool {
+    matches!(verb, Verb::Clearance | Verb::View)
+}
+
+// Runs what was given with several probes, prints what a command tells of it, and gives the exit status.
 fn show_run<R: Print + Eprint + AllocGlobal>(
     rt: &R,
     voice: Voice,
     request: &Request<'_, '_>,
-    setting: &NamedSetting,
-    set: &ProbeSet,
+    asked: &Asked<'_>,
     given: Given,
 ) -> u8 {
-    match show_image(rt, voice, request, setting, set, &given.image) {
+    match print_image(rt, voice, request, asked, &given) {
         Ok(status) => {
+            if !tries_boxes(request.verb()) {
+                tell_untried_boxes(rt, voice);
+            }
             let Given { notices, .. } = given;
             status_after(rt, voice, Ok(Done { status, notices }))
         }
@@ -166,24 +214,32 @@ fn given_input<'a, R: Files + Input + AllocGlobal>(
     }
 }
 
-// The clearance of several probes. The file is judged first, then whether its probes can be tried beside the workpiece, and then the input.
+// What is told of a run with several probes. The file is judged first, then whether its probes can be tried beside the workpiece, and then the input.
 fn show_several<R: Files + Input + Print + Eprint + AllocGlobal>(
     rt: &R,
     voice: Voice,
     request: &Request<'_, '_>,
+    probe: &str,
     setting: &NamedSetting,
     file: &[u8],
 ) -> u8 {
     let set = match read_probes(rt.alloc(), file) {
         Ok(set) => set,
-        Err(fault) => return tell_set_fault(rt, voice, &fault, request.probe()),
+        Err(fault) => return tell_set_fault(rt, voice, &fault, probe),
+    };
+    let input = request.input();
+    let asked = Asked {
+        setting,
+        set: &set,
+        probe,
+        input,
     };
     if let Some(unfit) = why_unfit(&setting.part, &set) {
-        return tell_run_fault(rt, voice, SetFault::Unfit(unfit), &set, request);
+        return tell_run_fault(rt, voice, SetFault::Unfit(unfit), &asked);
     }
-    match given_input(rt, request.input()) {
-        Ok(given) => show_run(rt, voice, request, setting, &set, given),
-        Err(message) => fails_in_view(rt, voice, message, request.input()),
+    match given_input(rt, input) {
+        Ok(given) => show_run(rt, voice, request, &asked, given),
+        Err(message) => fails_in_view(rt, voice, message, input),
     }
 }
 
@@ -210,26 +266,53 @@ fn show_boxes<'x, R: Files + Input + Print + Eprint + AllocGlobal>(
     }
 }
 
-/// Prints what the boxes of a probe, or of several, meet in a run, and gives the exit status. The probe file is judged after the workpiece.
-pub(crate) fn show_cleared<R: Files + Input + Print + Eprint + AllocGlobal>(
+// What is told of a run with boxes that are fixed to the tip, where they are tried.
+fn show_one<R: Files + Input + Print + Eprint + AllocGlobal>(
     rt: &R,
     voice: Voice,
     request: &Request<'_, '_>,
+    setting: &NamedSetting,
+    boxes: &Boxes,
+) -> u8 {
+    match request.verb() {
+        Verb::Clearance => show_boxes(rt, voice, request, setting, boxes),
+        Verb::View => show_page_with(rt, voice, boxes, setting, request.input()),
+        _ => tell_one_probe(rt),
+    }
+}
+
+/// The probe file of a run that a command line names, if it names one.
+pub(crate) fn probe_named<'a>(request: &Request<'a, '_>) -> Option<&'a str> {
+    if request.verb() == Verb::Clearance {
+        Some(request.probe())
+    } else if request.usage().takes(Choice::Probe) && request.usage().rest != Rest::Programs {
+        request.value(Choice::Probe)
+    } else {
+        None
+    }
+}
+
+/// Prints what a command tells of a run with the probe of a file, or with several, and gives the exit status. The probe file is judged after the workpiece.
+pub(crate) fn show_probed<R: Files + Input + Print + Eprint + AllocGlobal>(
+    rt: &R,
+    voice: Voice,
+    request: &Request<'_, '_>,
+    probe: &str,
 ) -> u8 {
     let setting = match named_setting_of(rt, voice, request) {
         Ok(setting) => setting,
         Err(told) => return fails_twice(rt, &told),
     };
-    let file = match bytes_of(rt, request.probe()) {
+    let file = match bytes_of(rt, probe) {
         Ok(file) => file,
         Err(message) => return fails(rt, message),
     };
     match is_of_several(rt.alloc(), &file) {
         Err(_) => fails(rt, Message::NoMemory),
-        Ok(true) => show_several(rt, voice, request, &setting, &file),
+        Ok(true) => show_several(rt, voice, request, probe, &setting, &file),
         Ok(false) => match read_boxes(rt.alloc(), &file) {
-            Ok(boxes) => show_boxes(rt, voice, request, &setting, &boxes),
-            Err(fault) => tell_unread(rt, voice, &Unread::Refused(fault), request.probe()),
+            Ok(boxes) => show_one(rt, voice, request, &setting, &boxes),
+            Err(fault) => tell_unread(rt, voice, &Unread::Refused(fault), probe),
         },
     }
 }

@@ -1,6 +1,7 @@
 //! A producer's text as it stands, in views of its run; what of it wasn't tried is reported behind them.
 
 use crate::choices::choices_of;
+use crate::several::probe_named;
 use crate::whole_debug::debug_running;
 use crate::whole_pages::print_page;
 use crate::whole_reading::tell_reading;
@@ -251,15 +252,6 @@ fn show_text<R: Files + Input + Print + Eprint + AllocGlobal>(
             },
         },
         Err(message) => fails_in_view(rt, voice, message, request.input()),
-    }
-}
-
-// The probe file that a command line names, if it names one.
-fn probe_named<'a>(request: &Request<'a, '_>) -> Option<&'a str> {
-    match request.verb() {
-        Verb::Clearance => Some(request.probe()),
-        Verb::View => request.value(Choice::Probe),
-        _ => None,
     }
 }
 

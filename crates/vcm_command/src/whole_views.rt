@@ -488,12 +488,13 @@ pub(crate) fn print_asked<'a, 'v, R: Print + AllocGlobal>(
 
 // ---- variables
 
-const NAMES: Message<'static> = Message::Option {
+/// What is told where the names of variables aren't those of some.
+pub(crate) const NAMES: Message<'static> = Message::Option {
     words: "--show wants names of variables of the program, with commas between them, as I or R#2",
 };
 
-// The variables that are to be shown, where the command takes that.
-fn names_shown<'a>(request: &Request<'a, '_>) -> Option<&'a str> {
+/// The variables that are to be shown, where the command takes that.
+pub(crate) fn names_shown<'a>(request: &Request<'a, '_>) -> Option<&'a str> {
     if request.usage().takes(Choice::Show) {
         request.value(Choice::Show)
     } else {
@@ -501,8 +502,14 @@ fn names_shown<'a>(request: &Request<'a, '_>) -> Option<&'a str> {
     }
 }
 
-// Where the variables of a program stand that have these names; none where one isn't there.
-fn places_of(alloc: Global, image: &[u8], names: &str) -> Result<Option<Vec<u16>>, NoMemory> {
+/// Where the variables of a program stand that have these names; none where one isn't there.
+///
+/// Errors: want of memory.
+pub(crate) fn places_of(
+    alloc: Global,
+    image: &[u8],
+    names: &str,
+) -> Result<Option<Vec<u16>>, NoMemory> {
     let Ok(loaded) = load(alloc, image) else {
         return Err(NoMemory);
     };

@@ -2,7 +2,7 @@
 
 use crate::printing::{DASH, STANDARD_INPUT, output, written};
 use crate::request::Request;
-use crate::showing::{NamedSetting, boxes_of, named_setting_of, status_shown, tell_unread};
+use crate::showing::{NamedSetting, named_setting_of, status_shown};
 use crate::talking::{Voice, fails_twice};
 use itoa::Buffer;
 use std::alloc::{AllocError, Global};
@@ -15,9 +15,8 @@ use vcm_messages::{Message, message_of};
 use vcm_num::{Point, write_all};
 use vcm_page::{Page, Texts};
 use vcm_part::PartData;
-use vcm_usage::Choice;
 use vcm_viewer::{back, front};
-use vcm_views::Clearance;
+use vcm_views::{Clearance, Why};
 
 // What a page is of: a workpiece with the names of its blocks, and the boxes that are fixed to the tip, if some are given.
 #[derive(Clone, Copy)]
@@ -154,17 +153,74 @@ pub fn names_element(alloc: Global, names: &[Vec<u8>]) -> Result<Vec<u8>, RunFau
     Ok(out)
 }
 
-// What stands after the story of a page: the elements of its names and of its boxes, and then what always does.
+// The digits of hexadecimal numbers.
+const DIGITS: &[u8; 16] = b"0123456789ABCDEF";
+
+// A digit of a hexadecimal number.
+fn digit(number: u8) -> u8 {
+    match DIGITS.get(usize::from(number)) {
+        Some(digit) => *digit,
+        None => b'0',
+    }
+}
+
+// Adds a text as it is spelled in an element: each byte that isn't printable, and `<` and `%`, by its number, as `%3C`.
+fn put_text(out: &mut Vec<u8>, text: &[u8]) -> Result<(), RunFault> {
+    for byte in text {
+        let is_plain = *byte == b'\n' || (*byte >= 32 && *byte <= 126);
+        if is_plain && *byte != b'<' && *byte != b'%' {
+            put(out, &[*byte])?;
+        } else {
+            put(out, &[b'%', digit(*byte / 16), digit(*byte % 16)])?;
+        }
+    }
+    Ok(())
+}
+
+// The element of a page that has what `vcm why` told of the run; nothing where that came to the end of its program, or didn't stop.
+fn why_element(alloc: Global, told: &[u8]) -> Result<Vec<u8>, RunFault> {
+    let mut out = Vec::new(alloc);
+    if told.starts_with(b"stop ") && !told.starts_with(b"stop ENDED") {
+        put(&mut out, b"<script type=\"text/plain\" id=\"why\">\n")?;
+        put_text(&mut out, told)?;
+        put(&mut out, b"</script>\n")?;
+    }
+    Ok(out)
+}
+
+// The same of a run of what was given.
+fn why_element_of(
+    alloc: Global,
+    subject: &Subject<'_>,
+    given: &Given,
+    steps: u64,
+) -> Result<Vec<u8>, RunFault> {
+    let mut told = Vec::new(alloc);
+    let view = Why {
+        block_names: subject.block_names,
+    };
+    match show(alloc, &view, given, subject.part, steps, &mut told) {
+        Ok(_) => why_element(alloc, &told),
+        Err(RunFault::Write { .. }) => Err(RunFault::NoMemory),
+        Err(fault) => Err(fault),
+    }
+}
+
+// What stands after the story of a page: the elements of its names, of its boxes and of its stop, and then what always does.
 fn back_with<'a>(
     alloc: Global,
     names: &'a [u8],
     boxes: &'a [u8],
+    why: &'a [u8],
 ) -> Result<Vec<&'a [u8]>, RunFault> {
     let mut pieces = Vec::new(alloc);
     let Ok(()) = pieces.push(names) else {
         return Err(RunFault::NoMemory);
     };
     let Ok(()) = pieces.push(boxes) else {
+        return Err(RunFault::NoMemory);
+    };
+    let Ok(()) = pieces.push(why) else {
         return Err(RunFault::NoMemory);
     };
     match pieces.extend_from_slice(&back()) {
@@ -205,7 +261,7 @@ pub fn story_of(
 }
 
 // Writes the page of a run of the program or image that a reader gives, with boxes that are fixed to the tip, if some are given. The input is read once, and its
-// run is made twice: to count its steps, and for the page; with boxes once more, for these.
+// run is made twice: to count its steps, and for the page; with boxes once more, for these; and once for why it stopped.
 fn write_page<I: Read, W: Write>(
     alloc: Global,
     subject: &Subject<'_>,
@@ -218,7 +274,8 @@ fn write_page<I: Read, W: Write>(
     let part = subject.part;
     let names = names_element(alloc, subject.block_names)?;
     let boxes = boxes_element_of(alloc, part, subject.boxes, &[], &given, steps)?;
-    let back = back_with(alloc, &names, &boxes)?;
+    let why = why_element_of(alloc, subject, &given, steps)?;
+    let back = back_with(alloc, &names, &boxes, &why)?;
     let front = front();
     let texts = Texts {
         front: &front,
@@ -278,25 +335,19 @@ fn show_subject<R: Files + Input + Print + Eprint + AllocGlobal>(
     status_shown(rt, voice, shown, input)
 }
 
-// Prints the page of a run with the boxes of a probe, and gives the exit status.
-fn show_page_with<R: Files + Input + Print + Eprint + AllocGlobal>(
+/// Prints the page of a run with the boxes of a probe, and gives the exit status.
+pub fn show_page_with<R: Files + Input + Print + Eprint + AllocGlobal>(
     rt: &R,
     voice: Voice,
-    probe: &str,
+    boxes: &Boxes,
     setting: &NamedSetting,
     input: &str,
 ) -> u8 {
-    match boxes_of(rt, probe) {
-        Ok(boxes) => {
-            let given = Some(&boxes);
-            let subject = subject_of(given, setting);
-            show_subject(rt, voice, &subject, input, setting.steps)
-        }
-        Err(unread) => tell_unread(rt, voice, &unread, probe),
-    }
+    let subject = subject_of(Some(boxes), setting);
+    show_subject(rt, voice, &subject, input, setting.steps)
 }
 
-/// Prints the page of a run, with the boxes of the probe that is given, if one is, and gives the exit status.
+/// Prints the page of a run, and gives the exit status.
 pub fn show_page<R: Files + Input + Print + Eprint + AllocGlobal>(
     rt: &R,
     voice: Voice,
@@ -306,12 +357,6 @@ pub fn show_page<R: Files + Input + Print + Eprint + AllocGlobal>(
         Ok(setting) => setting,
         Err(told) => return fails_twice(rt, &told),
     };
-    let input = request.input();
-    match request.value(Choice::Probe) {
-        Some(probe) => show_page_with(rt, voice, probe, &setting, input),
-        None => {
-            let subject = subject_of(None, &setting);
-            show_subject(rt, voice, &subject, input, setting.steps)
-        }
-    }
+    let subject = subject_of(None, &setting);
+    show_subject(rt, voice, &subject, request.input(), setting.steps)
 }

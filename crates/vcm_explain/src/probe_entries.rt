@@ -71,8 +71,8 @@ the probe.",
 Another key than `box` stands in the probe file, or, with the number of a box, another
 than `name`, `low` and `high` in it. A key that is passed over in silence would be a box
 that isn't tried. The tip itself stands in the part file, since it may touch. `UnknownKey
-probe` is told of a file of several probes, which only `vcm clearance` without `--whole`
-tries.
+probe` is told of a file of several probes where a command takes one probe alone, as
+`vcm judge`.
 For example, a probe file:
   [[box]]
   name = \"shaft\"
@@ -205,8 +205,8 @@ Do: check how far the ram can go, or measure the point with another probe.",
     Entry {
         keys: &["no probe"],
         text: "no probe
-The last line of a run with a file of several probes: the next statement moves, and the
-probe whose number the variable has isn't on, since no probe has this number, or none was
+The end of a run with a file of several probes: the next statement moves, and the probe
+whose number the variable has isn't on, since no probe has this number, or none was
 chosen yet. The run ends before it. Status 3.
 Do: choose a probe before the first motion, and check the numbers in the probe file.",
     },

@@ -11,6 +11,6 @@ mod writing;
 
 pub use event::{Change, Event, ProbeWay};
 pub use gathering::SetRun;
-pub use parts::{SetFault, run_set};
+pub use parts::{SetFault, in_strips, parts_of, place_of, run_set};
 pub use rooms::{is_turn, room_of, standing, swing_room, told_at_turn, told_of};
 pub use writing::{SetText, set_text};

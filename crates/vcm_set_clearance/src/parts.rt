@@ -35,8 +35,10 @@ fn part_of(alloc: Global, part: &PartData, probe: &Probe) -> Result<Option<PartD
     }
 }
 
-// The workpieces with the tips of these probes, in their order; none where one may not have its tip.
-fn parts_of(
+/// The workpieces with the tips of these probes, in their order; none where one may not have its tip.
+///
+/// Errors: want of memory.
+pub fn parts_of(
     alloc: Global,
     part: &PartData,
     probes: &[Probe],
@@ -53,8 +55,10 @@ fn parts_of(
     Ok(Some(parts))
 }
 
-// The same with blocks in strips, where there are many.
-fn in_strips<'a>(alloc: Global, each: &'a [PartData]) -> Result<Vec<AnyPart<'a>>, NoMemory>
+/// The same with blocks in strips, where there are many.
+///
+/// Errors: want of memory.
+pub fn in_strips<'a>(alloc: Global, each: &'a [PartData]) -> Result<Vec<AnyPart<'a>>, NoMemory>
     ensures { IfOk result (λ v. map ⟦<AnyPart<'a> as Part>⟧.part v.items ≡ each.now) }
 {
     let mut parts = Vec::with_capacity(alloc, each.len())?;
@@ -64,8 +68,14 @@ fn in_strips<'a>(alloc: Global, each: &'a [PartData]) -> Result<Vec<AnyPart<'a>>
     Ok(parts)
 }
 
-// The place of the variable by which the probes are chosen.
-fn place_of(alloc: Global, loaded: &Loaded<'_>, set: &ProbeSet) -> Result<Option<usize>, NoMemory>
+/// The place of the variable by which the probes are chosen, if the code has it.
+///
+/// Errors: want of memory.
+pub fn place_of(
+    alloc: Global,
+    loaded: &Loaded<'_>,
+    set: &ProbeSet,
+) -> Result<Option<usize>, NoMemory>
     ensures is { IfOk result (λ o. o ≡ chooser set.now.variable loaded.now.tables.variables) }
     ensures within { IfOk result (λ o. IfSome o (λ v. v < length loaded.now.tables.variables)) }
 {

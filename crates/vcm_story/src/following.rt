@@ -46,8 +46,10 @@ fn is_last(count: u64, from: u64) -> bool
     count == from
 }
 
-// Writes what a step adds that added these marks to the way: nothing before the last step that is not shown, with that one the state behind it.
-fn write_passage<W: Write>(
+/// Writes what a step adds that added these marks to the way: nothing before the last step that is not shown, with that one the state behind it.
+///
+/// Errors: the writer failed, or took no byte; then it has taken a front of the rows, and not all of them.
+pub fn write_passage<W: Write>(
     from: u64,
     count: u64,
     number: u32,

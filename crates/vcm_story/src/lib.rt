@@ -8,4 +8,5 @@ mod state_rows;
 mod step_rows;
 mod story;
 
-pub use story::{ShownText, StoryFault, write_story};
+pub use following::write_passage;
+pub use story::{ShownText, StoryFault, write_opening, write_start, write_story};

@@ -52,8 +52,10 @@ fn write_program<'a, W: Write>(
     write_notices(shown.notices, writer)
 }
 
-// Writes the rows that stand before any state.
-fn write_opening<'a, W: Write>(
+/// Writes the rows that stand before any state.
+///
+/// Errors: the writer failed, or took no byte; then it has taken a front of the rows, and not all of them.
+pub fn write_opening<'a, W: Write>(
     loaded: &'a Loaded<'a>,
     blocks: &PartData,
     shown: ShownText<'_>,
@@ -67,8 +69,10 @@ fn write_opening<'a, W: Write>(
     write_program(loaded, shown, writer)
 }
 
-// Writes the state at the start, where all steps are shown.
-fn write_start<W: Write>(from: u64, world: &World, writer: &mut W) -> Result<(), WriteFault>
+/// Writes the state at the start, where all steps are shown.
+///
+/// Errors: the writer failed, or took no byte; then it has taken a front of the rows, and not all of them.
+pub fn write_start<W: Write>(from: u64, world: &World, writer: &mut W) -> Result<(), WriteFault>
     ensures { Wrote (W.contents writer.old) (W.contents writer.new)
         (if from == 0 then state_rows world.now.tables 0 world.now.state else []) result }
 {

@@ -48,7 +48,7 @@ fn write_numbers<W: Write>(
 /// line and its word, and the position in millimetres.
 ///
 /// Errors: the writer failed, or took no byte; then it has taken a front of the fields, and not all of them.
-pub(crate) fn write_front<W: Write>(
+pub fn write_front<W: Write>(
     count: u64,
     number: u32,
     line: u32,

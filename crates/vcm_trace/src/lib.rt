@@ -9,6 +9,7 @@ mod rows;
 mod told;
 mod tracing;
 
+pub use fields::write_front;
 pub use lines::{write_open, write_step};
 pub use rows::{WritesRows, write_rows};
 pub use told::{Told, told_of};

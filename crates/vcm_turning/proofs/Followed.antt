@@ -197,10 +197,12 @@ module _ (part : Workpiece) (ps : List Probe) (v : ℕ) (c : Code) where
     }
 
     pub stopped : (p : StopPlace) → m.state.world.stop ≡ Some p → HasRunTurned n part ps v c m (record { done = k; end = end.Stopped })
-    stopped p e = record { reached = w.reached; few = w.few; each = w.each; ended = (p, sym (ap (λ (t : Turned). t.state.world.stop) w.reached) ∙ e) }
+    stopped p e = record { probes_are = w.probes_are; code_is = w.code_is; reached = w.reached; few = w.few; each = w.each; ended = (p, sym (ap (λ (t : Turned). t.state.world.stop) w.reached) ∙ e) }
 
     pub counted : n ≤ k → m.state.world.stop ≡ None → HasRunTurned n part ps v c m (record { done = k; end = end.Count })
     counted l e = record {
+      probes_are = w.probes_are;
+      code_is = w.code_is;
       reached = w.reached;
       few = w.few;
       each = w.each;
@@ -210,8 +212,8 @@ module _ (part : Workpiece) (ps : List Probe) (v : ℕ) (c : Code) where
     ends_so : k < n → (e : Ended) → EndsHere m e → HasRunTurned n part ps v c m (record { done = k; end = e })
     ends_so l end.Count h = absurd h
     ends_so l end.Stopped h = absurd h
-    ends_so l (end.Lost e) h = record { reached = w.reached; few = w.few; each = w.each; ended = (l, sym (ap (λ (t : Turned). t.ended) next_is) ∙ h) }
-    ends_so l end.NoMemory h = record { reached = w.reached; few = w.few; each = w.each; ended = (l, subst WantsMemory (same (λ p q x d t. carrier p q d t)) h) }
+    ends_so l (end.Lost e) h = record { probes_are = w.probes_are; code_is = w.code_is; reached = w.reached; few = w.few; each = w.each; ended = (l, sym (ap (λ (t : Turned). t.ended) next_is) ∙ h) }
+    ends_so l end.NoMemory h = record { probes_are = w.probes_are; code_is = w.code_is; reached = w.reached; few = w.few; each = w.each; ended = (l, subst WantsMemory (same (λ p q x d t. carrier p q d t)) h) }
 
     pub ends : (new : Turner) (e : Ended) → k < n → new ≡ m → EndsHere m e → HasRunTurned n part ps v c new (record { done = k; end = e })
     ends new e l is h = subst (λ (x : Turner). HasRunTurned n part ps v c x (record { done = k; end = e })) (sym is) (ends_so l e h)

@@ -77,6 +77,8 @@ TurningEnded n part ps v c done end.NoMemory = (done < n) × WantsMemory (carrie
 
 -- a run for at most n steps has come to this machine, and each of the steps that were done was one
 pub record HasRunTurned (n : ℕ) (part : Workpiece) (ps : List Probe) (variable : ℕ) (c : Code) (new : Turner) (ran : Ran) : Type 0 where
+  pub probes_are : new.probes ≡ ps
+  pub code_is : new.code ≡ c
   pub reached : turned_of new ≡ turned_after part ps variable c ran.done
   pub few : ran.done ≤ n
   pub each : length (turned_steps part ps variable c ran.done) ≡ ran.done

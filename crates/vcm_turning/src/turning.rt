@@ -153,6 +153,15 @@ impl<'a, P: Part> Turning<'a, P> {
         &self.world
     }
 
+    /// The state of the machine, alone.
+    pub fn into_world(self) -> World
+        ensures state { result.state ≡ self.entry.state.world }
+        ensures tables { result.tables ≡ self.entry.code.tables }
+    {
+        let Turning { world, .. } = self;
+        world
+    }
+
     /// The place of the probe that is on, if one is.
     pub fn on(&self) -> Option<usize>
         ensures is { result ≡ self.now.on }

@@ -206,8 +206,8 @@ impl Choice {
                 "probe",
                 "PROBE",
                 Files::Tables,
-                "the boxes of the probe",
-                "The boxes that are fixed to the tip, a TOML text; it is shown where they meet a block",
+                "the probe, or several",
+                "The probe, or several of which the program chooses, a TOML text: with several the head turns between steps, and view shows what they meet",
             ),
             Choice::Tip => valued(
                 "tip",

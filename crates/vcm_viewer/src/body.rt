@@ -6,7 +6,7 @@ pub(crate) fn head_1() -> &'static [u8] {
 <html lang=\"en\">
 <head>
 <meta charset=\"utf-8\">
-<meta http-equiv=\"Content-Security-Policy\" content=\"default-src 'none'; script-src 'sha256-aJMLnZ27T1vAY5zh0+xs0r0vbKkh6H+GRfoWb7HC9Jk='; style-src 'sha256-ODq5bTrVENWM8tAZpsFXfRqhjKWeA35OsPvqzBWYWCQ='; base-uri 'none'; form-action 'none'\">
+<meta http-equiv=\"Content-Security-Policy\" content=\"default-src 'none'; script-src 'sha256-V3Wp0zgJFWoQAhCZCyHNe0iT4jXyKwrCc8pdZoBN6x0='; style-src 'sha256-LtivpBrPwpzyqQpjD/zbtDgwPh6S9dRymkreRXOggXU='; base-uri 'none'; form-action 'none'\">
 <meta name=\"viewport\" content=\"width=device-width, initial-scale=1\">
 <meta name=\"color-scheme\" content=\"light dark\">
 <title>vcm view</title>
@@ -66,17 +66,18 @@ pub(crate) fn middle_2() -> &'static [u8] {
   </nav>
   <section id=\"program\" aria-label=\"Program text\" tabindex=\"0\"></section>
   <aside id=\"state\" aria-label=\"State behind this step\" tabindex=\"0\">
+    <section id=\"why-card\" class=\"why\" aria-labelledby=\"why-title\" hidden><h2><span id=\"why-title\">Why it stops here</span> <button type=\"button\" id=\"why-to\" class=\"jump\" hidden>at its step</button></h2><ol id=\"why-lines\"></ol><p id=\"why-free\" class=\"free\" hidden></p><div id=\"why-others\"></div></section>
     <section class=\"step\"><h2 id=\"step-title\"></h2><p id=\"step-done\" class=\"done\"></p><p id=\"step-line\" class=\"raw\"></p></section>
     <section><h2>Probe</h2><table id=\"places\"><thead><tr><td></td><th scope=\"col\" class=\"n\">X</th><th scope=\"col\" class=\"n\">Y</th><th scope=\"col\" class=\"n\">Z</th></tr></thead><tbody></tbody></table><dl id=\"probe\" class=\"rows\"></dl></section>
-    <section id=\"variables-section\"><h2>Variables</h2><input type=\"search\" id=\"variables-filter\" placeholder=\"Find a variable\" aria-label=\"Find a variable\" hidden><table id=\"variables\"><thead><tr><th scope=\"col\">Name</th><th scope=\"col\" class=\"n\">Value</th><th scope=\"col\" class=\"n\">Set at step</th></tr></thead><tbody></tbody></table></section>
 "
 }
 
 /// Part 3 of what stands between the style and the story.
 pub(crate) fn middle_3() -> &'static [u8] {
-    b"    <section id=\"points-section\"><h2>Measured points <span id=\"points-count\" class=\"count\"></span></h2><table id=\"points\"><thead><tr><th scope=\"col\">Name</th><th scope=\"col\" class=\"n\">X</th><th scope=\"col\" class=\"n\">Y</th><th scope=\"col\" class=\"n\">Z</th><th scope=\"col\" class=\"n\">Deviation</th><th scope=\"col\" class=\"n\">Step</th></tr></thead><tbody></tbody></table></section>
-    <section id=\"boxes-section\"><h2>Boxes of the probe</h2><table id=\"boxes\"><thead><tr><th scope=\"col\">Name</th><th scope=\"col\">Contact, or room</th><th scope=\"col\" class=\"n\">Step</th></tr></thead><tbody></tbody></table></section>
-    <section id=\"output-section\"><h2>Output <span id=\"output-count\" class=\"count\"></span></h2><ol id=\"output\"></ol></section>
+    b"    <section id=\"variables-section\"><h2>Variables</h2><input type=\"search\" id=\"variables-filter\" placeholder=\"Find a variable\" aria-label=\"Find a variable\" hidden><div class=\"list\" id=\"variables-list\" tabindex=\"0\" role=\"group\" aria-label=\"Variables\"><table id=\"variables\"><thead><tr><th scope=\"col\">Name</th><th scope=\"col\" class=\"n\">Value</th><th scope=\"col\" class=\"n\">Set at step</th></tr></thead></table></div></section>
+    <section id=\"points-section\"><h2>Measured points <span id=\"points-count\" class=\"count\"></span></h2><div class=\"list\" id=\"points-list\" tabindex=\"0\" role=\"group\" aria-label=\"Measured points\"><table id=\"points\"><thead><tr><th scope=\"col\">Name</th><th scope=\"col\" class=\"n\">X</th><th scope=\"col\" class=\"n\">Y</th><th scope=\"col\" class=\"n\">Z</th><th scope=\"col\" class=\"n\">Deviation</th><th scope=\"col\" class=\"n\">Step</th></tr></thead></table></div></section>
+    <section id=\"boxes-section\"><h2>Boxes of the probe</h2><div class=\"list\" id=\"boxes-list\" tabindex=\"0\" role=\"group\" aria-label=\"Boxes of the probe\"><table id=\"boxes\"><thead><tr><th scope=\"col\">Name</th><th scope=\"col\">Contact, or room</th><th scope=\"col\" class=\"n\">Step</th></tr></thead></table></div></section>
+    <section id=\"output-section\"><h2>Output <span id=\"output-count\" class=\"count\"></span></h2><div class=\"list\" id=\"output\" tabindex=\"0\" role=\"group\" aria-label=\"Output\"></div></section>
     <section><h2>Settings</h2><dl id=\"settings\" class=\"rows\"></dl></section>
     <section id=\"notices-section\"><h2>Notices</h2><ul id=\"notices\"></ul></section>
   </aside>
@@ -86,19 +87,19 @@ pub(crate) fn middle_3() -> &'static [u8] {
     <button type=\"button\" id=\"to-start\" aria-label=\"To the start\" title=\"To the start (Home)\">&#124;&#9664;</button>
     <button type=\"button\" id=\"step-back\" aria-label=\"One step back\" title=\"One step back (left arrow)\">&#9664;</button>
     <button type=\"button\" id=\"play\" aria-label=\"Play\" title=\"Play (space)\">&#9654;</button>
-    <button type=\"button\" id=\"step-on\" aria-label=\"One step on\" title=\"One step on (right arrow)\">&#9654;&#124;</button>
+"
+}
+
+/// Part 4 of what stands between the style and the story.
+pub(crate) fn middle_4() -> &'static [u8] {
+    b"    <button type=\"button\" id=\"step-on\" aria-label=\"One step on\" title=\"One step on (right arrow)\">&#9654;&#124;</button>
     <button type=\"button\" id=\"to-end\" aria-label=\"To the end\" title=\"To the end (End)\">&#9654;&#9654;</button>
     <button type=\"button\" id=\"to-met\" hidden></button>
     <label class=\"speed\">Speed <select id=\"speed\"><option value=\"0.25\">&#188;</option><option value=\"1\" selected>1</option><option value=\"4\">4</option><option value=\"16\">16</option><option value=\"64\">64</option></select></label>
   </div>
   <div class=\"time\">
     <canvas id=\"profile\" aria-hidden=\"true\" title=\"How high the probe is behind each step; dots are measured points, ticks are output lines\"></canvas>
-"
-}
-
-/// Part 4 of what stands between the style and the story.
-pub(crate) fn middle_4() -> &'static [u8] {
-    b"    <input type=\"range\" id=\"slider\" min=\"0\" max=\"1\" value=\"0\" aria-label=\"Step\">
+    <input type=\"range\" id=\"slider\" min=\"0\" max=\"1\" value=\"0\" aria-label=\"Step\">
   </div>
   <p class=\"where\"><label>Step <input type=\"number\" id=\"number\" min=\"0\" value=\"0\"></label> <span id=\"of\"></span></p>
 </footer>
@@ -116,7 +117,12 @@ pub(crate) fn middle_4() -> &'static [u8] {
     <tr><td><kbd>+</kbd> <kbd>-</kbd></td><td>nearer, farther</td></tr>
   </table>
   <p>A click on a line goes to the next time that it is carried out; a click on the way goes to its step. The wheel zooms, and dragging moves the views or turns the 3D view.</p>
-  <p><label><input type=\"checkbox\" id=\"letters\" checked> Keys of one letter or sign work</label></p>
+"
+}
+
+/// Part 5 of what stands between the style and the story.
+pub(crate) fn middle_5() -> &'static [u8] {
+    b"  <p><label><input type=\"checkbox\" id=\"letters\" checked> Keys of one letter or sign work</label></p>
   <form method=\"dialog\"><button>Close</button></form>
 </dialog>
 <script type=\"text/plain\" id=\"run\">

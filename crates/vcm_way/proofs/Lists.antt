@@ -4,7 +4,8 @@ use Rattle.std.specs.Prelude.{nat_le, if◌then◌else◌}
 use Rattle.vcm_marks.specs.declared.mark.PlacedMark.{PlacedMark}
 use Rattle.vcm_marks.specs.Pieces.{is_piece, counted, pieces}
 use Rattle.vcm_way.specs.Ways.{last_pieces, most_pieces, Kept, kept_of}
-use Rattle.vcm_way.specs.inner.Added.{kept, more, shortened, StandsFor}
+use Rattle.vcm_way.specs.Keeping.{kept, shortened, StandsFor}
+use Rattle.vcm_way.specs.inner.Added.{more}
 
 append-nil : (xs : List PlacedMark) → xs ++ [] ≡ xs
 append-nil [] = refl

@@ -25,7 +25,8 @@ use Rattle.vcm_way.specs.declared.task.Task.{Task}
 use Rattle.vcm_way.specs.Tasks.{task_of, marks_of}
 use Rattle.vcm_way.specs.Ways.{reason, Kept, placed, step_marks, placed_marks}
 use Rattle.vcm_way.specs.Steps.{IsBefore, TaskEnds}
-use Rattle.vcm_way.specs.inner.Added.{StandsFor, Keeps}
+use Rattle.vcm_way.specs.Keeping.{StandsFor}
+use Rattle.vcm_way.specs.inner.Added.{Keeps}
 use Rattle.vcm_way.proofs.Sent.{task_ends}
 
 -- ---- before a step

@@ -3,6 +3,7 @@ pub mod Steps
 pub mod Meaning
 pub mod Tasks
 pub mod Ways
+pub mod Keeping
 pub mod Following
 pub mod Gone
 pub mod Seen

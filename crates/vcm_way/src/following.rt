@@ -6,7 +6,8 @@ ghost use Rattle.vcm_marks.specs.declared.mark.PlacedMark.{PlacedMark as Stands}
 ghost use Rattle.vcm_way.specs.Following.{HasFollowed};
 ghost use Rattle.vcm_way.specs.Steps.{IsBefore};
 ghost use Rattle.vcm_way.specs.Ways.{placed_marks, most_pieces, whole_way};
-ghost use Rattle.vcm_way.specs.inner.Added.{kept, Keeps, HasKept};
+ghost use Rattle.vcm_way.specs.Keeping.{kept};
+ghost use Rattle.vcm_way.specs.inner.Added.{Keeps, HasKept};
 
 use crate::step::{Before, look, marks_of_step, reason};
 use crate::way::Way;
@@ -22,7 +23,7 @@ use vcm_state::World;
 use vcm_steps::{Follows, follow_run};
 
 /// The most pieces that a way keeps.
-const MOST_PIECES: usize = 20_000;
+pub const MOST_PIECES: usize = 20_000;
 
 /// What a run came to, and its way.
 #[derive(Drop)]

@@ -13,7 +13,7 @@ mod task;
 mod touching;
 mod way;
 
-pub use following::{Followed, follow};
+pub use following::{Followed, MOST_PIECES, follow};
 pub use gone::{Gone, first_way};
 pub use step::{Before, StepMarks, look, marks_of_step, reason};
 pub use task::{Measuring, Task};

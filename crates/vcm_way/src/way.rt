@@ -4,7 +4,8 @@ ghost use Rattle.std.specs.Prelude.{◌≡◌, ◌≤◌, ◌<◌, true, List, [
 ghost use Rattle.vcm_marks.specs.declared.mark.PlacedMark.{PlacedMark as Stands};
 ghost use Rattle.vcm_marks.specs.Pieces.{is_piece, counted, pieces};
 ghost use Rattle.vcm_way.specs.Ways.{placed, last_pieces, most_pieces};
-ghost use Rattle.vcm_way.specs.inner.Added.{kept, more, shortened, StandsFor};
+ghost use Rattle.vcm_way.specs.Keeping.{kept, shortened, StandsFor};
+ghost use Rattle.vcm_way.specs.inner.Added.{more};
 
 use std::alloc::Global;
 use std::marker::Model;
@@ -85,8 +86,8 @@ impl Model for Way {
 }
 
 impl Way {
-    // The way of no step.
-    pub(crate) fn new(alloc: Global) -> Way
+    /// The way of no step.
+    pub fn new(alloc: Global) -> Way
         ensures { result ≡ kept [] 0 }
     {
         Way {
@@ -114,7 +115,7 @@ impl Way {
     /// Leaves out the first marks, so that at most so many pieces are left.
     ///
     /// Errors: want of memory, or more pieces are left out than 64 bits count.
-    pub(crate) fn keep_last(&mut self, alloc: Global, most: usize) -> Result<(), NoMemory>
+    pub fn keep_last(&mut self, alloc: Global, most: usize) -> Result<(), NoMemory>
         requires { most ≡ most_pieces }
         ensures { OnOk result (self.new ≡ shortened self.old) }
     {
@@ -131,7 +132,7 @@ impl Way {
     /// The marks of one more step. Where there are three times as many marks as pieces are kept, the first ones are left out.
     ///
     /// Errors: want of memory, or more pieces are left out than 64 bits count.
-    pub(crate) fn add_step(
+    pub fn add_step(
         &mut self,
         alloc: Global,
         most: usize,

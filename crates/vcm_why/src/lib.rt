@@ -8,4 +8,6 @@ mod source;
 mod stops;
 mod telling;
 
+pub use origin::{Origin, origin_of};
+pub use stops::{write_where, write_why};
 pub use telling::{why_image, why_text};

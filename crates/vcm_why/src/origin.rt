@@ -12,7 +12,7 @@ use vcm_syntax::parse_statement;
 
 /// The text of a program, its statements, and the lines of the CALLs that one of them comes from, the innermost first. Contracts see it as a `Traced`.
 #[derive(Drop)]
-pub(crate) struct Origin<'a> {
+pub struct Origin<'a> {
     pub(crate) text: &'a [u8],
     pub(crate) statements: Vec<Statement>,
     pub(crate) chain: Vec<u32>,
@@ -45,7 +45,7 @@ fn read_all(alloc: Global, lines: &[Logical]) -> Result<Vec<Statement>, SourceFa
 /// Where the statement with this number of a program comes from.
 ///
 /// Errors: want of memory; the refusal of a text whose lines, statements or macros have a fault.
-pub(crate) fn origin_of(alloc: Global, text: &[u8], number: u32) -> Result<Origin<'_>, SourceFault>
+pub fn origin_of(alloc: Global, text: &[u8], number: u32) -> Result<Origin<'_>, SourceFault>
     ensures { IfOk result (λ o. IsOrigin text.now number o) }
 {
     let lines = logical_lines(alloc, text)?;

@@ -37,8 +37,10 @@ fn write_text<W: Write>(
     write_loops(loaded, world, rounds, number, writer)
 }
 
-// Writes where a statement comes from.
-fn write_where<W: Write>(
+/// Writes where a statement comes from, of which nothing is known without a text.
+///
+/// Errors: the writer failed, or took no byte; then it has taken a front of the lines, and not all of them.
+pub fn write_where<W: Write>(
     origin: &Option<Origin<'_>>,
     loaded: &Loaded<'_>,
     world: &World,
@@ -110,7 +112,7 @@ fn write_stop<W: Write>(
 /// Writes what is told of a run that came to a state with this number of the next statement after so many steps, beside blocks with these names.
 ///
 /// Errors: the writer failed, or took no byte; then it has taken a front of the text, and not all of it.
-pub(crate) fn write_why<W: Write>(
+pub fn write_why<W: Write>(
     origin: &Option<Origin<'_>>,
     loaded: &Loaded<'_>,
     part: &PartData,

@@ -1,30 +1,17 @@
 -- What is kept of a way.
-use Rattle.std.specs.Prelude.{◌≡◌, ℕ, ◌+◌, ◌-◌, List, [], ◌++◌}
+use Rattle.std.specs.Prelude.{◌≡◌, ℕ, List, [], ◌++◌}
 use Rattle.vcm_spec.specs.Workpiece.{Workpiece}
 use Rattle.vcm_code.specs.declared.code.Code.{Code}
 use Rattle.vcm_machine.specs.declared.ran.Ran.{Ran}
 use Rattle.vcm_machine.specs.Running.{Running, started, HasRun}
 use Rattle.vcm_state.specs.Held.{Held}
 use Rattle.vcm_marks.specs.declared.mark.PlacedMark.{PlacedMark}
-use Rattle.vcm_marks.specs.Pieces.{pieces}
-use Rattle.vcm_way.specs.Ways.{Kept, last_pieces, most_pieces, whole_way}
-
--- these marks, so many pieces being left out before them
-abbrev pub kept : List PlacedMark → ℕ → Kept
-kept marks left_out = record { marks = marks; left_out = left_out }
+use Rattle.vcm_way.specs.Ways.{Kept, whole_way}
+use Rattle.vcm_way.specs.Keeping.{kept, StandsFor}
 
 -- with more marks behind them
 abbrev pub more : Kept → List PlacedMark → Kept
 more k marks = kept (k.marks ++ marks) k.left_out
-
--- with the last pieces alone
-abbrev pub shortened : Kept → Kept
-shortened k = kept (last_pieces most_pieces k.marks) (k.left_out + (pieces k.marks - pieces (last_pieces most_pieces k.marks)))
-
--- it stands for a whole way: its last pieces are those of the way, whatever comes behind, and all others are left out
-pub record StandsFor (k : Kept) (whole : List PlacedMark) : Type 0 where
-  pub total : k.left_out + pieces k.marks ≡ pieces whole
-  pub last : (ms : List PlacedMark) → last_pieces most_pieces (k.marks ++ ms) ≡ last_pieces most_pieces (whole ++ ms)
 
 -- what stood for no step stands for this way now
 abbrev pub Keeps : Kept → Kept → List PlacedMark → Type 0

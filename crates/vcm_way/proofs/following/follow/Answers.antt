@@ -1,6 +1,6 @@
 use Rattle.std.proofs.Common.{[], refl, sym, ◌∙◌, subst}
 use Rattle.vcm_way.specs.Ways.{Kept, most_pieces, whole_way}
-use Rattle.vcm_way.specs.inner.Added.{StandsFor}
+use Rattle.vcm_way.specs.Keeping.{StandsFor}
 use Rattle.vcm_way.proofs.Lists.{stands_for_none, kept_is}
 use Rattle.vcm_way.proofs.following.follow.Goals as goal
 

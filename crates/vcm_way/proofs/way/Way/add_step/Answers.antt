@@ -1,6 +1,7 @@
 use Rattle.std.proofs.Common.{◌++◌, sym, ap, ◌∙◌, subst}
 use Rattle.vcm_way.specs.Ways.{Kept, placed}
-use Rattle.vcm_way.specs.inner.Added.{more, shortened, StandsFor}
+use Rattle.vcm_way.specs.Keeping.{shortened, StandsFor}
+use Rattle.vcm_way.specs.inner.Added.{more}
 use Rattle.vcm_way.proofs.Lists.{stands_more, stands_shortened}
 use Rattle.vcm_way.proofs.Stepped.{on_ok_then}
 use Rattle.vcm_way.proofs.way.Way.add_step.Goals as goal

@@ -1,0 +1,18 @@
+use Rattle.std.proofs.Common.{refl}
+use Rattle.std.proofs.lemmas.Result.{err_from_is_err_and}
+use Rattle.vcm_num.proofs.KnownWrites.{front_first, front_then, wrote_then}
+use Rattle.vcm_set_views.proofs.reasons.write_lost.Goals as goal
+
+pub returns-in_err-write_no_probe : goal.returns-in_err-write_no_probe
+returns-in_err-write_no_probe g c =
+    let p = err_from_is_err_and c.from_residual.result c.from_residual.ensures.1 in
+    rw p.1 (front_first _ _ _ _ _ refl c.in_err-write_no_probe.ensures)
+
+pub returns-in_err-write_where : goal.returns-in_err-write_where
+returns-in_err-write_where g c =
+    let p = err_from_is_err_and c.from_residual-in_err-write_where.result c.from_residual-in_err-write_where.ensures.1 in
+    rw p.1 (front_then _ _ _ _ _ _ refl c.in_ok-write_no_probe.ensures (front_first _ _ _ _ _ refl c.in_err-write_where.ensures))
+
+pub returns : goal.returns
+returns g c =
+    wrote_then _ _ _ _ _ _ _ refl c.in_ok-write_no_probe.ensures (wrote_then _ _ _ _ _ _ _ refl c.in_ok-write_where.ensures (rw c.probe_on.ensures at c.write_wanting.ensures))

@@ -1,0 +1,12 @@
+use Rattle.std.proofs.Common.{refl}
+use Rattle.std.proofs.lemmas.Result.{err_from_is_err_and}
+use Rattle.vcm_num.proofs.KnownWrites.{front_first, wrote_then}
+use Rattle.vcm_set_views.proofs.rows.write_lost_row.Goals as goal
+
+pub returns-in_err-write_front : goal.returns-in_err-write_front
+returns-in_err-write_front g c =
+    let p = err_from_is_err_and c.from_residual.result c.from_residual.ensures.1 in
+    rw p.1 (front_first _ _ _ _ _ refl (rw c.position.ensures at c.in_err-write_front.ensures))
+
+pub returns : goal.returns
+returns g c = wrote_then _ _ _ _ _ _ _ refl (rw c.position.ensures at c.in_ok-write_front.ensures) c.write_no_probe.ensures

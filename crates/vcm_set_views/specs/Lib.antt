@@ -1,0 +1,9 @@
+pub mod Fit
+pub mod Chains
+pub mod Ends
+pub mod Rows
+pub mod Result
+pub mod Reasons
+pub mod Story
+pub mod Drawn
+pub mod Laws

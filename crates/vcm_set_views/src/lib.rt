@@ -1,0 +1,25 @@
+//! What is told of a run with several probes, one of which a program chooses at a time: its result, its trace, its measured points, why it ended where it did, and
+//! its story. Boxes and swing of the probes aren't tried here.
+#![tactic(auto)]
+
+mod beside;
+mod drawn;
+mod ends;
+mod fitted;
+mod following;
+pub mod laws;
+mod reasons;
+mod result;
+mod rows;
+mod running;
+mod story;
+
+pub use drawn::set_picture;
+pub use ends::{SetEnd, SetTold, write_no_probe};
+pub use fitted::{Fitted, fit, fit_at};
+pub use following::SeesSteps;
+pub use reasons::set_why;
+pub use result::set_result;
+pub use rows::{set_points, set_trace};
+pub use running::{Ending, run_seen};
+pub use story::set_story;
