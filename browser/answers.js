@@ -15,7 +15,6 @@ const commands = {
   trace: { words: (it) => [it.program, it.part, "--steps", it.steps], end: ".csv", isWhole: true },
   list: { words: (it) => [it.program], end: ".lst" },
   check: { words: (it) => ["--all", it.program], end: ".txt" },
-  adapt: { words: (it) => [it.program, "--part", it.part], end: ".dmi" },
 };
 
 // The words of a call, with the options of a whole text where one is run and the command takes them.

@@ -240,7 +240,6 @@ class Page {
     $("answer").textContent = (left > 0 ? out.slice(0, MOST_SHOWN) + `\n(${left.toLocaleString("en")} more characters; Save has them all)\n` : out) + err;
     this.drawing.show(isDrawn ? answer.out : null);
     $("answer-save").disabled = answer.out.length === 0;
-    $("answer-take").hidden = command !== "adapt" || answer.out.length === 0;
   }
 
   // ---- what is shown of it
@@ -504,7 +503,6 @@ class Page {
     $("bring").onclick = () => this.setWhole({});
     $("page-save").onclick = () => download(this.run, this.nameOf(".html"), "text/html");
     $("answer-save").onclick = () => download(this.answer.out, this.nameOf("-" + $("command").value + commands[$("command").value].end), "text/plain");
-    $("answer-take").onclick = () => this.program.replace(this.answer.text);
     $("link").onclick = () => this.link();
     $("forget").onclick = () => {
       keep(null);

@@ -77,7 +77,7 @@ const point = "(-?[\\d.]+) (-?[\\d.]+) (-?[\\d.]+)";
 
 // What `vcm why` tells.
 function readWhy(text) {
-  const why = { calls: [], rounds: [] };
+  const why = { calls: [], rounds: [], hints: [] };
   for (const line of text.split("\n")) {
     let it;
     if ((it = /^block \d+ is "(.*)"$/.exec(line))) why.name = it[1];
@@ -87,6 +87,9 @@ function readWhy(text) {
     else if ((it = new RegExp(`^way ${point} to ${point}$`).exec(line))) why.way = [it.slice(1, 4), it.slice(4, 7)];
     else if ((it = new RegExp(`^contact of the tip's centre at ${point} with block (\\d+), `).exec(line))) [why.contact, why.block] = [it.slice(1, 4), Number(it[4])];
     else if (line.startsWith("free over it ") || line.startsWith("free beside it ")) why.free = line.slice(5);
+    else if ((it = /^past a limit: (.*)$/.exec(line))) why.hints.push(it[1].replace(/^[xyz]/, (c) => c.toUpperCase()).replace(/(below|above) /, "$1 the limit "));
+    else if (/^(the next block on that line is|no block lies farther|a retract of) /.test(line)) why.hints.push(line);
+    else if ((it = /^frame of line (\d+): (.*)$/.exec(line))) why.frame = { line: Number(it[1]), text: it[2] };
   }
   return why;
 }

@@ -40,6 +40,7 @@ function stopDetail(stop, why, meaning) {
   if (why.way && why.contact) parts.push(`${far(why.way[0], why.contact)} mm into ${kind === "approach" ? "an" : "a"} ${kind} of ${far(...why.way)} mm`);
   else if (why.way) parts.push(`${kind || "way"} from ${why.way[0].join(" ")} to ${why.way[1].join(" ")}`);
   if (why.free) parts.push("free " + capitals(why.free).replace(", ", ", or "));
+  parts.push(...why.hints);
   if (parts.length === 0 && meaning) parts.push(meaning.split(/\n\n|(?<=\.)\s/)[0].replace(/\.$/, ""));
   return parts;
 }
@@ -93,5 +94,7 @@ function whyRows(stop, why, blockLines) {
     rows.push(["Contact", [`${why.contact.join(" ")} with ${blockText(why.block, why.name)}`, ...(line ? [" (", link("part", line, `part line ${line}`), ")"] : [])]]);
   }
   if (why.free) rows.push(["Free", [capitals(why.free)]]);
+  if (why.hints.length) rows.push([why.free ? "Or" : "Hint", [why.hints.join("; ")]]);
+  if (why.frame) rows.push(["Frame", ["of ", link("program", why.frame.line, `line ${why.frame.line}`), `: ${why.frame.text}`]]);
   return rows;
 }

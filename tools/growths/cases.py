@@ -20,12 +20,14 @@ BOUNDS = "low = [-500000, -500000, -500000]\nhigh = [500000, 500000, 500000]\nho
 FILES = {
     # a part whose blocks are cut into strips
     "twenty.toml": BOUNDS + "".join(f"[[block]]\nlow = [{20000 * i}, 10000, 0]\nhigh = [{20000 * i + 20000}, 30000, 20000]\n" for i in range(20)),
-    # two probes, between which the head turns, and a program that chooses them
+    # two probes, between which the head turns, and a program that chooses them; a producer's that selects them, and one that isn't there
     "heads.toml": "".join(
         f'[[probe]]\nname = "T{n}"\nnumber = {n}\npivot = {pivot}\n[[probe.box]]\nname = "shaft"\nlow = {low}\nhigh = {high}\n'
         for n, pivot, low, high in ((1, "[0, 0, 100000]", "[-700, -700, 5000]", "[700, 700, 50000]"), (2, "[0, 100000, 0]", "[-700, 5000, -700]", "[700, 50000, 700]"))
     ) + '[[swing]]\nname = "round"\nlow = [-20000, -110000, -110000]\nhigh = [20000, 110000, 30000]\n',
     "chosen.dmi": HEAD + "FEDRAT/POSVEL,MPM,4\nDECL/INTGR,PROBE\nPROBE=ASSIGN/1\nGOTO/0,0,180\nPROBE=ASSIGN/2\nGOTO/0,0,190\nENDFIL\n",
+    "probed.dmi": HEAD + "DECL/INTGR,PROBE,I\nPROBE=ASSIGN/1\nDO/I,1,3\nTEXT/OPER,'a line'\nENDDO\nPROBE=ASSIGN/2\nGOTO/0,0,190\nPROBE=ASSIGN/3\nGOTO/0,0,180\nENDFIL\n",
+    "selects.dmi": HEAD + "SNSLCT/S(T1)\nGOTO/0,0,180\nSNSLCT/S(T2)\nGOTO/0,0,190\nSNSLCT/S(H30)\nGOTO/0,0,200\nENDFIL\n",
     # keys that nothing uses, a name, and faults
     "notes.toml": 'made = "by hand"\n' + BOUNDS + '[[block]]\nname = "vise"\nlow = [10000, 10000, 0]\nhigh = [30000, 30000, 20000]\ncolour = "red"\n',
     "low.toml": BOUNDS + "[[block]]\nlow = [10000, 10000, 0]\nhigh = [30000, 9000, 20000]\n",
@@ -80,7 +82,8 @@ MADE = (
 LINES = "break 1\nrun\nwhere\nstep 3\nwatch i\nrun\nback 2\nback 2\nshow i\nout\nlist\nrun\nrun\nreverse\nreverse\nout 2\nrun\nwhere\nquit\n"
 LONG = "step 40\nback 3\nback 3\nstep 9\nout 2\nback 17\nshow i\nline 5\nbreak 1\nrun\nrun 20\nreverse\nclear 1\nunwatch i\nwatch i\nreverse\nrun\nstep 200\nwhere\nback 60\nrun\nrun\nout\nwhere\n"
 OVERS = "known\nover\nover 2\nknown\nrun\nknown\nreverse\nover 3\nover 200\nquit\n"
-TALKED = "b 5\nr\npos\n\ns 2\ns 2\nwa i\nr\np i\nw\nu 2\nl\nrev\nbs\ncl 5\nrun\no 2\nhelp\nnonsense\nwhere\nq\n"
+TALKED = "b 5\nr\npos\n\ns 2\ns 2\nwa i\nr\np i\nw\nu 2\nl\nrev\nbs\ncl 5\nrun\no 2\nhelp\nnonsense\nwhere\nwhy\nq\n"
+PROBED = "run 2\nwhere\nstep 3\nback 2\nbreak 2\nreverse\nrun\nrun\nclear 2\nrun\nreverse\nout\nstep\nwhatever\nback 9\nquit\n"
 # Each number of steps back from 100, and forth again.
 BACKS = "step 100\n" + "".join(f"back {it}\nshow i\nstep {it}\n" for it in range(1, 101))
 FEATURES = "run 3\nfeat p1\nrun\nback\nfeat p1\nstep\nwhere\n"
@@ -162,11 +165,13 @@ def runs():
     yield case("clearance touch.dmi part-a.toml -", read("stylus.toml"), status=3, kind="lines")
     yield case("clearance chosen.dmi notes.toml heads.toml", kind="lines")
     yield case("clearance grid.dmi part-a.toml heads.toml", status=1)
-    for command in ("run", "trace", "points", "why"):
+    yield case("clearance selects.dmi notes.toml heads.toml --whole", kind="lines", status=3)
+    for command in ("run", "trace", "points", "why", "contacts", "picture"):
         yield case(f"{command} chosen.dmi notes.toml --probe heads.toml", kind="lines")
     yield case("run chosen.dmi notes.toml --probe heads.toml --show PROBE --quiet", kind="lines")
     yield case("view chosen.dmi notes.toml --probe heads.toml", kind="page")
     yield case("run grid.dmi part-a.toml --probe stylus.toml", status=2)
+    yield case("contacts selects.dmi notes.toml --probe heads.toml --whole", kind="lines", status=3)
     yield case("run - -", status=2)
     yield case("run notices.dmi notes.toml --talk")
     yield case("run late.dmi part-a.toml --talk", status=1)
@@ -364,6 +369,7 @@ def sessions():
         yield case("debug notices.dmi notes.toml --talk", "r\nq\n", kind="session", in_a_row=in_a_row)
         yield case("debug asked.dmi part-a.toml --whole --frame A=10,20,0,Z90 --given V=10 --apprch 2 --retrct 2 --search 5 --auto --approach", OVERS, kind="session", in_a_row=in_a_row)
         yield case("debug waits.dmi part-a.toml --whole --harmless WAIT --table 0", OVERS, kind="session", in_a_row=in_a_row)
+        yield case("debug probed.dmi notes.toml --probe heads.toml", PROBED, kind="session", in_a_row=in_a_row)
         for name, lines in rows.sections():
             if name in TALKS:
                 yield Case(("dap",), rows.bytes_sent(lines), kind="adapter", in_a_row=in_a_row)

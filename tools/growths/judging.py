@@ -18,6 +18,7 @@ NO_MEMORY = re.compile(rb"no memory( after [0-9]+ steps)?\n")
 HALTED = b"no memory "
 LEFT_OUT = b"no memory\n"
 SUMMARY = re.compile(rb"(?m)^(?:(.+): )?notices: .*\n")
+GREETING = re.compile(rb"(?m)^help tells the commands; .*\n")
 STANDS = re.compile(rb"step ([0-9]+) ")
 # The second line of a refusal of a workpiece that lies off its place, which tells where that was.
 AT_PLACE = re.compile(rb"at place [^\n]*\n\Z")
@@ -184,8 +185,8 @@ def is_right(case, wanted, found, ask):
 
 
 def without_prompts(answer):
-    """An answer without the prompts of a session by hand."""
-    return dataclasses.replace(answer, told=answer.told.replace(b"(vcm) ", b""))
+    """An answer without the prompts of a session by hand, and without what is said before the first of them."""
+    return dataclasses.replace(answer, told=GREETING.sub(b"", answer.told.replace(b"(vcm) ", b"")))
 
 
 def judged(case, wanted, found, ask):

@@ -1,10 +1,9 @@
 -- Ways past the edges of a block don't meet it.
-use Rattle.std.proofs.Common.{◌≡◌, ℕ, ◌+◌, ◌-◌, ◌<◌, ◌≤◌, ℤ, pos, ◌+ℤ◌, ◌-ℤ◌, ◌*ℤ◌, ◌≤ℤ◌, Bool, true, false, Option, Some, None, refl, sym, ap, subst, arith}
+use Rattle.std.proofs.Common.{◌≡◌, ℕ, ◌+◌, ◌-◌, ℤ, pos, ◌+ℤ◌, ◌-ℤ◌, ◌*ℤ◌, ◌≤ℤ◌, Bool, true, false, Option, Some, None, refl, ap, subst, arith}
 use Rattle.std.specs.Prelude.{int_le, if◌then◌else◌}
 use Rattle.std.proofs.lemmas.Int.{ints}
 use Rattle.vcm_num.proofs.Ring.{mul-add, add-mul}
 use Rattle.vcm_num.specs.declared.point.Point.{Point}
-use Rattle.vcm_num.specs.Point.{coordinate}
 use Rattle.vcm_spec.specs.declared.workpiece.Block3.{Block3}
 use Rattle.vcm_spec.specs.declared.workpiece.Bounds.{Bounds}
 use Rattle.vcm_spec.specs.Contact.{IsFraction, IsShared, TipMeets}
@@ -12,7 +11,7 @@ use Rattle.vcm_spec.proofs.Entries.{mul_le, cancelled}
 use Rattle.vcm_cause.specs.declared.sides.Side.{Side}
 use Rattle.vcm_cause.specs.declared.sides.Side.TheVariants.{LowX, HighX, LowY, HighY}
 use Rattle.vcm_cause.specs.declared.sides.FreeSide.{FreeSide}
-use Rattle.vcm_cause.specs.Free.{gap, edge_below, edge_above, edge, past, offered, shift, nearer, over, beside, LiesPast}
+use Rattle.vcm_cause.specs.Free.{gap, edge, past, offered, shift, nearer, beside, LiesPast}
 use Rattle.vcm_cause.specs.Laws.{OverIsFree, BesideIsFree}
 
 -- ---- on one axis

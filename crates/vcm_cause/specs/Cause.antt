@@ -1,6 +1,5 @@
 -- What a stop in a motion tells of it, from the marks that its step adds to the way.
-use Rattle.std.specs.Prelude.{ℕ, ◌-◌, List, length, slice_get, Option, Some, None}
-use Rattle.vcm_num.specs.declared.point.Point.{Point}
+use Rattle.std.specs.Prelude.{◌-◌, List, length, slice_get, Option, Some, None}
 use Rattle.vcm_spec.specs.declared.workpiece.Block3.{Block3}
 use Rattle.vcm_spec.specs.Workpiece.{Workpiece}
 use Rattle.vcm_marks.specs.declared.mark.Contact.{Contact}

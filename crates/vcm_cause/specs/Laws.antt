@@ -4,7 +4,6 @@ use Rattle.vcm_num.specs.declared.point.Point.{Point}
 use Rattle.vcm_spec.specs.declared.workpiece.Block3.{Block3}
 use Rattle.vcm_spec.specs.declared.workpiece.Bounds.{Bounds}
 use Rattle.vcm_spec.specs.Contact.{TipMeets}
-use Rattle.vcm_cause.specs.declared.sides.Side.{Side}
 use Rattle.vcm_cause.specs.declared.sides.FreeSide.{FreeSide}
 use Rattle.vcm_cause.specs.Free.{LiesPast, over, beside}
 

@@ -11,7 +11,7 @@ use Rattle.vcm_cause.specs.Behind.{Behind, behind_run}
 
 -- what is known, as the definitions have it
 abbrev pub seen : Progress → Behind
-seen w = record { marks = listed w.marks; rounds = w.rounds }
+seen w = record { marks = listed w.marks; rounds = w.rounds; framed = w.framed }
 
 -- a run of at most n steps has come to this state and ran so, and this is known behind it
 pub record HasWatched (part : Workpiece) (c : Code) (n : ℕ) (world : Held) (next : ℕ) (ran : Ran) (progress : Progress) : Type 0 where

@@ -2,13 +2,17 @@
 //! rounds each loop has begun. Lengths are whole micrometres.
 #![tactic(auto)]
 
+mod ahead;
 mod cause;
+mod framed;
 pub mod laws;
 mod rounds;
 mod sides;
 mod watching;
 
+pub use ahead::{Ahead, block_ahead, free_length};
 pub use cause::{Cause, Obstacle, cause_of};
+pub use framed::framed_behind;
 pub use rounds::{MOST_LOOPS, Rounds, count_round, round_of};
 pub use sides::{FreeSide, Side};
 pub use watching::{Progress, Watched, before_steps, watch};

@@ -6,6 +6,7 @@ ghost use Rattle.vcm_way.specs.Steps.{IsBefore};
 ghost use Rattle.vcm_cause.specs.Behind.{behind, before_steps};
 ghost use Rattle.vcm_cause.specs.Watched.{seen, HasWatched};
 
+use crate::framed::framed_behind;
 use crate::rounds::{MOST_LOOPS, Rounds, count_round};
 use std::alloc::Global;
 use vcm_fields::BorrowedStatement;
@@ -18,11 +19,13 @@ use vcm_state::World;
 use vcm_steps::{Follows, follow_run};
 use vcm_way::{Before, StepMarks, look, marks_of_step, reason};
 
-/// What is known behind the steps of a run: the marks that the last one adds to the way, and the rounds of the loops.
+/// What is known behind the steps of a run: the marks that the last one adds to the way, the rounds of the loops, and the line of the statement that made
+/// the current frame, 0 before there is one.
 #[derive(Clone, Copy)]
 pub struct Progress {
     pub marks: StepMarks,
     pub rounds: Rounds,
+    pub framed: u32,
 }
 
 /// What a run came to.
@@ -77,6 +80,7 @@ impl<P: Part> Follows<Progress> for Watcher<'_, P> {
         let stop = world.stop();
         to.marks = marks_of_step(self.part, self.blocks, &before, reason(stop));
         count_round(&mut to.rounds, &statement.op, number, next, stop);
+        to.framed = framed_behind(to.framed, &statement.op, statement.line, stop);
         Ok(())
     }
 }
@@ -87,7 +91,11 @@ pub fn before_steps() -> Progress
 {
     let marks = StepMarks::Zero;
     let rounds = [0; MOST_LOOPS];
-    Progress { marks, rounds }
+    Progress {
+        marks,
+        rounds,
+        framed: 0,
+    }
 }
 
 /// Runs a loaded code for at most so many steps beside a workpiece, whose blocks are given too, and tells what is known behind its last step. Want of

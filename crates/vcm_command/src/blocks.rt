@@ -230,6 +230,7 @@ fn voice_with(voice: Voice) -> Voice {
         is_summary: voice.is_summary,
         is_quiet: voice.is_quiet,
         is_by_hand: voice.is_by_hand,
+        is_painted: voice.is_painted,
         may_be_whole: voice.may_be_whole,
     }
 }

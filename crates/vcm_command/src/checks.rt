@@ -3,7 +3,7 @@
 use crate::choices::choices_of;
 use crate::telling::tell_bytes;
 use crate::whole::{Built, put_whole, status_of_unused};
-use crate::whole_reading::tell_reading;
+use crate::whole_reading::{Selecting, tell_reading};
 use std::alloc::{AllocError, Global};
 use std::fmt::Write as _;
 use std::rt::Files;
@@ -191,7 +191,15 @@ fn tell_whole<R: Print + Eprint + AllocGlobal>(
     tell_notices(rt, checked, built.whole.notices.as_slice());
     let front = if checked.is_named { checked.name } else { "" };
     let names = built.names.as_slice();
-    tell_reading(rt, checked.voice, front, facts, names, request);
+    tell_reading(
+        rt,
+        checked.voice,
+        front,
+        Selecting::Part,
+        facts,
+        names,
+        request,
+    );
     0
 }
 

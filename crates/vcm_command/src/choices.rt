@@ -360,6 +360,7 @@ pub(crate) fn choices_of(
         tip: i32::try_from(tip).unwrap_or(0),
         harmless: told(harmless, HARMLESS)?,
         table: table_of(request)?,
+        probes: Items::new(alloc),
     })
 }
 

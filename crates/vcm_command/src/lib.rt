@@ -12,8 +12,10 @@ mod hardware;
 mod judge;
 mod judged;
 mod off_place;
+mod probes_given;
 mod producing;
 mod program;
+mod set_debug;
 mod set_pages;
 mod set_views;
 mod several;
@@ -24,6 +26,7 @@ mod whole_launch;
 mod whole_pages;
 mod whole_points;
 mod whole_reading;
+mod whole_several;
 mod whole_views;
 
 pub use program::{status, words_to_explain};

@@ -1,19 +1,20 @@
 //! The page of a run with several probes.
 
-use crate::several::{Asked, status_at};
+use crate::set_views::why_told;
+use crate::several::Asked;
 use std::alloc::{AllocError, Global};
 use std::fmt::Write as _;
 use std::io::Write;
 use vcm_console::write_variable;
-use vcm_devices::{fails, fails_unless_closed, names_element, output, written};
+use vcm_devices::{names_element, why_element};
 use vcm_job::Given;
 use vcm_loader::Loaded;
-use vcm_messages::Message;
 use vcm_num::{NoMemory, Point, WriteFault, write_pieces};
 use vcm_print::print;
 use vcm_probe_set::{Body, Probe, ProbeSet};
-use vcm_set_clearance::{run_set, set_text};
+use vcm_set_clearance::{run_set_at, set_text};
 use vcm_set_views::{Fitted, SetTold, set_story};
+use vcm_short_names::{ShortName, lengthen_names};
 use vcm_story::ShownText;
 use vcm_viewer::{back, front};
 
@@ -64,12 +65,22 @@ fn probe_lines(
     Ok(text)
 }
 
+/// What is told beside a run: the names that the text has for those that are written short, and what a page has of what wasn't tried.
+#[derive(Clone, Copy)]
+pub(crate) struct Beside<'a> {
+    pub(crate) names: &'a [ShortName],
+    pub(crate) untried: &'a [u8],
+    /// Whether the code was made of the text as it is written, so that it can be told where a statement comes from.
+    pub(crate) is_written: bool,
+}
+
 // What stands in a page of a run besides its fixed texts.
 #[derive(Drop)]
 struct PageParts {
     told: SetTold,
     names: Vec<u8>,
     probes: Vec<u8>,
+    why: Vec<u8>,
 }
 
 // The name of the variable that chooses a probe, as a story has it; none where memory is refused.
@@ -88,12 +99,18 @@ fn chooser_name(alloc: Global, fitted: &Fitted<'_>, loaded: &Loaded<'_>) -> Opti
 }
 
 // The clearance of the probes, as it is printed but for the names of blocks; none where memory is refused.
-fn clearance_told(alloc: Global, asked: &Asked<'_>, loaded: &Loaded<'_>) -> Option<Vec<u8>> {
+fn clearance_told(
+    alloc: Global,
+    asked: &Asked<'_>,
+    loaded: &Loaded<'_>,
+    variable: usize,
+) -> Option<Vec<u8>> {
     let Ok(tables) = loaded.tables(alloc) else {
         return None;
     };
     let setting = asked.setting;
-    let Ok(run) = run_set(alloc, loaded, asked.set, &setting.part, setting.steps) else {
+    let (part, steps) = (&setting.part, setting.steps);
+    let Ok(run) = run_set_at(alloc, loaded, asked.set, part, variable, steps) else {
         return None;
     };
     match set_text(alloc, asked.set, &setting.part, &run, b"", &tables, &[]) {
@@ -112,7 +129,7 @@ fn probes_element(
     let chooser = chooser_name(alloc, fitted, loaded)?;
     let tip = asked.setting.part.bounds().tip;
     let lines = probe_lines(alloc, asked.set, &chooser, tip).ok()?;
-    let clearance = clearance_told(alloc, asked, loaded)?;
+    let clearance = clearance_told(alloc, asked, loaded, fitted.variable())?;
     let mut out = Vec::new(alloc);
     let pieces: [&[u8]; 4] = [
         b"<script type=\"text/plain\" id=\"probe-boxes\">\n",
@@ -156,6 +173,17 @@ fn story_told(
     }
 }
 
+// The element that tells why the run stopped; none where memory is refused.
+fn why_of(alloc: Global, asked: &Asked<'_>, fitted: &Fitted<'_>, given: &Given) -> Option<Vec<u8>> {
+    let Ok(reason) = why_told(alloc, fitted, asked.setting, given) else {
+        return None;
+    };
+    match why_element(alloc, &reason.text) {
+        Ok(why) => Some(why),
+        Err(_) => None,
+    }
+}
+
 // What stands in the page; none where memory is refused.
 fn parts_of(
     alloc: Global,
@@ -163,32 +191,39 @@ fn parts_of(
     fitted: &Fitted<'_>,
     given: &Given,
     loaded: &Loaded<'_>,
+    is_written: bool,
 ) -> Option<PageParts> {
     let probes = probes_element(alloc, asked, fitted, loaded)?;
     let Ok(names) = names_element(alloc, asked.setting.block_names.as_slice()) else {
         return None;
+    };
+    let why = if is_written {
+        why_of(alloc, asked, fitted, given)?
+    } else {
+        Vec::new(alloc)
     };
     match story_told(alloc, asked, fitted, given, loaded) {
         Ok(told) => Some(PageParts {
             told,
             names,
             probes,
+            why,
         }),
         Err(_) => None,
     }
 }
 
-// Prints the page of a run.
-fn print_parts<R: Print + AllocGlobal>(rt: &R, parts: &PageParts) -> Result<(), Message<'static>> {
-    let mut out = output(rt)?;
-    let told = write_page(&mut out, parts).map_err(|_| Message::Write {
-        name: "standard output",
-    });
-    written(&mut out, told)
+// The page of these parts; none where memory is refused.
+fn page_of(alloc: Global, parts: &PageParts, untried: &[u8]) -> Option<Vec<u8>> {
+    let mut page = Vec::new(alloc);
+    match write_page(&mut page, parts, untried) {
+        Ok(()) => Some(page),
+        Err(_) => None,
+    }
 }
 
 // Writes a page: its story between the fixed texts, and what stands behind it.
-fn write_page<W: Write>(out: &mut W, parts: &PageParts) -> Result<(), WriteFault> {
+fn write_page<W: Write>(out: &mut W, parts: &PageParts, untried: &[u8]) -> Result<(), WriteFault> {
     write_pieces(out, &front())?;
     write_pieces(
         out,
@@ -197,25 +232,29 @@ fn write_page<W: Write>(out: &mut W, parts: &PageParts) -> Result<(), WriteFault
             b"</script>\n",
             parts.names.as_slice(),
             parts.probes.as_slice(),
+            parts.why.as_slice(),
+            untried,
         ],
     )?;
     write_pieces(out, &back())
 }
 
-/// Prints the page of a run of what was given with several probes, and gives the exit status, which is that of the run. Where it isn't printed, it is told why, and the
-/// exit status is given as a fault.
-pub(crate) fn print_set_page<R: Print + Eprint + AllocGlobal>(
-    rt: &R,
+/// The page of a run of what was given with several probes, with the names that the text has, and with the element that tells what wasn't tried; none where memory is
+/// refused.
+pub(crate) fn page_told(
+    alloc: Global,
     asked: &Asked<'_>,
     fitted: &Fitted<'_>,
     given: &Given,
     loaded: &Loaded<'_>,
-) -> Result<u8, u8> {
-    let Some(parts) = parts_of(rt.alloc(), asked, fitted, given, loaded) else {
-        return Err(fails(rt, Message::NoMemory));
+    beside: Beside<'_>,
+) -> Option<SetTold> {
+    let mut parts = parts_of(alloc, asked, fitted, given, loaded, beside.is_written)?;
+    let Ok(story) = lengthen_names(alloc, beside.names, &parts.told.text) else {
+        return None;
     };
-    match print_parts(rt, &parts) {
-        Ok(()) => Ok(status_at(parts.told.end.end, parts.told.end.stop)),
-        Err(message) => Err(fails_unless_closed(rt, message)),
-    }
+    parts.told.text = story;
+    let page = page_of(alloc, &parts, beside.untried)?;
+    let end = parts.told.end;
+    Some(SetTold { text: page, end })
 }

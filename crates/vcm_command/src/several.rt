@@ -1,6 +1,6 @@
 //! Runs with the probe of a file, or with several, one of which a program chooses at a time: with several the head turns between steps.
 
-use crate::set_pages::print_set_page;
+use crate::set_debug::debug_fitted;
 use crate::set_views::{print_told, tell_untried_boxes};
 use crate::whole_views::print_plain;
 use std::alloc::Global;
@@ -8,7 +8,8 @@ use std::rt::Files;
 use vcm_boxes::{Boxes, read_boxes};
 use vcm_devices::{
     NamedSetting, Request, Unread, View, Voice, bytes_of, fails, fails_in_view, fails_twice,
-    fails_unless_closed, named_setting_of, print_bytes, show_page_with, status_after, tell_unread,
+    fails_unless_closed, is_sheet, named_setting_of, print_bytes, show_page_with, status_after,
+    tell_unread, unread_input,
 };
 use vcm_job::{Done, Given, InputRefusal, RunFault, given_of, status_of};
 use vcm_loader::{Loaded, load};
@@ -29,8 +30,13 @@ fn in_file<R: Eprint>(rt: &R, voice: Voice, name: &str) -> u8 {
     1
 }
 
-// Tells why a file of several probes isn't read, and gives the exit status.
-fn tell_set_fault<R: Eprint>(rt: &R, voice: Voice, fault: &ProbeSetFault, name: &str) -> u8 {
+/// Tells why a file of several probes isn't read, and gives the exit status.
+pub(crate) fn tell_set_fault<R: Eprint>(
+    rt: &R,
+    voice: Voice,
+    fault: &ProbeSetFault,
+    name: &str,
+) -> u8 {
     match fault {
         ProbeSetFault::NoMemory => fails(rt, Message::NoMemory),
         ProbeSetFault::Refused(refusal) => {
@@ -49,8 +55,13 @@ pub(crate) struct Asked<'a> {
     pub(crate) input: &'a str,
 }
 
-// Tells why a run with several probes wasn't done, and gives the exit status.
-fn tell_run_fault<R: Eprint>(rt: &R, voice: Voice, fault: SetFault, asked: &Asked<'_>) -> u8 {
+/// Tells why a run with several probes wasn't done, and gives the exit status.
+pub(crate) fn tell_run_fault<R: Eprint>(
+    rt: &R,
+    voice: Voice,
+    fault: SetFault,
+    asked: &Asked<'_>,
+) -> u8 {
     match fault {
         SetFault::NoMemory => fails(rt, Message::NoMemory),
         SetFault::Unfit(unfit) => {
@@ -65,8 +76,8 @@ fn tell_run_fault<R: Eprint>(rt: &R, voice: Voice, fault: SetFault, asked: &Aske
     }
 }
 
-// Tells that of a file of one probe nothing is used here, and gives the exit status.
-fn tell_one_probe<R: Eprint>(rt: &R) -> u8 {
+/// Tells that of a file of one probe nothing is used here, and gives the exit status.
+pub(crate) fn tell_one_probe<R: Eprint>(rt: &R) -> u8 {
     let _ = eprintln!(rt; "this file has one probe: vcm clearance tries it");
     2
 }
@@ -79,8 +90,8 @@ pub(crate) fn status_at(end: Ended, stop: Option<StopPlace>) -> u8 {
     }
 }
 
-// The same where a body met a block, or didn't.
-fn status_with(run: &SetRun, is_met: bool) -> u8 {
+/// The same where a body met a block, or didn't.
+pub(crate) fn status_with(run: &SetRun, is_met: bool) -> u8 {
     if is_met {
         3
     } else {
@@ -136,8 +147,8 @@ fn print_clearance<R: Print + Eprint + AllocGlobal>(
     }
 }
 
-// Runs a loaded code with several probes, and prints what a command tells of it, likewise.
-fn print_loaded<R: Print + Eprint + AllocGlobal>(
+// Runs a loaded code with several probes, and prints what a command tells of it, or answers commands on it, likewise.
+fn print_loaded<R: Input + Print + Eprint + AllocGlobal>(
     rt: &R,
     voice: Voice,
     request: &Request<'_, '_>,
@@ -148,19 +159,18 @@ fn print_loaded<R: Print + Eprint + AllocGlobal>(
     if request.verb() == Verb::Clearance {
         return print_clearance(rt, voice, asked, loaded);
     }
-    let setting = asked.setting;
-    let fitted = match fit(rt.alloc(), loaded, asked.set, &setting.part) {
+    let fitted = match fit(rt.alloc(), loaded, asked.set, &asked.setting.part) {
         Ok(fitted) => fitted,
         Err(fault) => return Err(tell_run_fault(rt, voice, fault, asked)),
     };
-    match request.verb() {
-        Verb::View => print_set_page(rt, asked, &fitted, given, loaded),
-        _ => print_told(rt, request, setting, &fitted, given),
+    if request.verb() == Verb::Debug {
+        return debug_fitted(rt, &fitted);
     }
+    print_told(rt, request, asked, &fitted, given, loaded)
 }
 
 // The same of an image.
-fn print_image<R: Print + Eprint + AllocGlobal>(
+fn print_image<R: Input + Print + Eprint + AllocGlobal>(
     rt: &R,
     voice: Voice,
     request: &Request<'_, '_>,
@@ -177,13 +187,13 @@ fn print_image<R: Print + Eprint + AllocGlobal>(
     }
 }
 
-// Whether a command tries the boxes of the probes.
-fn tries_boxes(verb: Verb) -> bool {
+/// Whether a command tries the boxes of the probes.
+pub(crate) fn tries_boxes(verb: Verb) -> bool {
     matches!(verb, Verb::Clearance | Verb::View)
 }
 
 // Runs what was given with several probes, prints what a command tells of it, and gives the exit status.
-fn show_run<R: Print + Eprint + AllocGlobal>(
+fn show_run<R: Input + Print + Eprint + AllocGlobal>(
     rt: &R,
     voice: Voice,
     request: &Request<'_, '_>,
@@ -213,6 +223,11 @@ fn given_input<'a, R: Files + Input + AllocGlobal>(
         Err(fault) => Err(message_of(fault, input)),
     }
 }
+
+/// What is told where a sheet is asked for with probes.
+pub(crate) const NO_SHEET: Message<'static> = Message::Option {
+    words: "--probe draws a picture, and no sheet",
+};
 
 // What is told of a run with several probes. The file is judged first, then whether its probes can be tried beside the workpiece, and then the input.
 fn show_several<R: Files + Input + Print + Eprint + AllocGlobal>(
@@ -292,6 +307,20 @@ pub(crate) fn probe_named<'a>(request: &Request<'a, '_>) -> Option<&'a str> {
     }
 }
 
+/// Whether a sheet is asked for.
+pub(crate) fn draws_sheet(request: &Request<'_, '_>) -> bool {
+    request.verb() == Verb::Picture && is_sheet(request)
+}
+
+// Why commands can't be read from standard input, where a command reads them and they can't.
+fn unread_commands<R: Input>(rt: &R, request: &Request<'_, '_>) -> Option<Message<'static>> {
+    if request.verb() == Verb::Debug {
+        unread_input(rt)
+    } else {
+        None
+    }
+}
+
 /// Prints what a command tells of a run with the probe of a file, or with several, and gives the exit status. The probe file is judged after the workpiece.
 pub(crate) fn show_probed<R: Files + Input + Print + Eprint + AllocGlobal>(
     rt: &R,
@@ -299,6 +328,12 @@ pub(crate) fn show_probed<R: Files + Input + Print + Eprint + AllocGlobal>(
     request: &Request<'_, '_>,
     probe: &str,
 ) -> u8 {
+    if draws_sheet(request) {
+        return fails(rt, NO_SHEET);
+    }
+    if let Some(message) = unread_commands(rt, request) {
+        return fails(rt, message);
+    }
     let setting = match named_setting_of(rt, voice, request) {
         Ok(setting) => setting,
         Err(told) => return fails_twice(rt, &told),

@@ -1,22 +1,26 @@
 //! A producer's text as it stands, in views of its run; what of it wasn't tried is reported behind them.
 
 use crate::choices::choices_of;
-use crate::several::probe_named;
+use crate::probes_given::{common_tip, probes_given, with_aliases};
+use crate::set_debug::NO_WHOLE;
+use crate::several::{NO_SHEET, draws_sheet, probe_named, tell_one_probe, tries_boxes};
 use crate::whole_debug::debug_running;
 use crate::whole_pages::print_page;
-use crate::whole_reading::tell_reading;
+use crate::whole_reading::{Selecting, tell_reading};
+use crate::whole_several::show_whole_several;
 use crate::whole_views::{Beside, Report, Running, around_view, print_asked, report_of};
 use std::alloc::Global;
 use std::rt::Files;
-use vcm_boxes::Boxes;
+use vcm_boxes::{Boxes, read_boxes};
 use vcm_devices::{
-    LINES, NamedSetting, Request, Voice, boxes_of, bytes_of, fails, fails_in_view, fails_twice,
+    LINES, NamedSetting, Request, Unread, Voice, bytes_of, fails, fails_in_view, fails_twice,
     lines_given, named_setting_of, status_after, tell_unread, unread_input,
 };
 use vcm_given::Choices;
 use vcm_job::{Given, InputRefusal, RunFault, is_image};
 use vcm_messages::{Message, message_of};
 use vcm_num::{Items, MOST_STATEMENTS, NoMemory};
+use vcm_probe_set::{ProbeSet, is_of_several};
 use vcm_sheet::{ALL_LINES, Lines};
 use vcm_short_names::{ShortName, Shortened, long_name, long_out, shorten_names};
 use vcm_untried::NamedFrame;
@@ -46,13 +50,55 @@ pub(crate) fn put_whole<'a>(
     input: &'a str,
     text: &[u8],
 ) -> Result<Built, Message<'a>> {
+    put_whole_with(alloc, request, tip, None, input, text)
+}
+
+// A text with its long names written short; sensors with the names of these probes have aliases, if some are given.
+fn shortened(alloc: Global, set: Option<&ProbeSet>, text: &[u8]) -> Result<Shortened, NoMemory> {
+    match set {
+        Some(set) => shorten_names(alloc, &with_aliases(alloc, set, text)?),
+        None => shorten_names(alloc, text),
+    }
+}
+
+// What a command line says of such a text; the tip is the one that all these probes have alike, if they have one.
+fn choices_with(
+    alloc: Global,
+    request: &Request<'_, '_>,
+    names: &[ShortName],
+    tip: u32,
+    set: Option<&ProbeSet>,
+) -> Result<Choices, Message<'static>> {
+    let mut choices = choices_of(alloc, request, names, tip)?;
+    let Some(set) = set else {
+        return Ok(choices);
+    };
+    let Ok(probes) = probes_given(alloc, set, names, tip) else {
+        return Err(Message::NoMemory);
+    };
+    if let Some(tip) = common_tip(probes.as_slice()) {
+        choices.tip = tip;
+    }
+    choices.probes = probes;
+    Ok(choices)
+}
+
+/// The same where SNSLCT puts on one of these probes, if some are given.
+pub(crate) fn put_whole_with<'a>(
+    alloc: Global,
+    request: &Request<'_, '_>,
+    tip: u32,
+    set: Option<&ProbeSet>,
+    input: &'a str,
+    text: &[u8],
+) -> Result<Built, Message<'a>> {
     if is_image(text) {
         return Err(IMAGE);
     }
-    let Ok(Shortened { text, names }) = shorten_names(alloc, text) else {
+    let Ok(Shortened { text, names }) = shortened(alloc, set, text) else {
         return Err(Message::NoMemory);
     };
-    let choices = choices_of(alloc, request, names.as_slice(), tip)?;
+    let choices = choices_with(alloc, request, names.as_slice(), tip, set)?;
     match build_whole(alloc, &choices, &text) {
         Ok(whole) => Ok(Built { whole, text, names }),
         Err(refusal) => {
@@ -88,7 +134,19 @@ pub(crate) fn whole_from<'a>(
     input: &'a str,
     source: Vec<u8>,
 ) -> Result<Running, Message<'a>> {
-    let Built { whole, text, names } = put_whole(alloc, request, tip, input, &source)?;
+    whole_with(alloc, request, tip, None, input, source)
+}
+
+/// The same where SNSLCT puts on one of these probes, if some are given.
+pub(crate) fn whole_with<'a>(
+    alloc: Global,
+    request: &Request<'_, '_>,
+    tip: u32,
+    set: Option<&ProbeSet>,
+    input: &'a str,
+    source: Vec<u8>,
+) -> Result<Running, Message<'a>> {
+    let Built { whole, text, names } = put_whole_with(alloc, request, tip, set, input, &source)?;
     let Whole {
         image,
         notices,
@@ -227,7 +285,7 @@ fn show_running<R: Print + Eprint + AllocGlobal>(
     match printed {
         Ok(done) => {
             let status = status_after(rt, voice, Ok(done));
-            tell_reading(rt, voice, "", &facts, names, request);
+            tell_reading(rt, voice, "", Selecting::Part, &facts, names, request);
             tell_untried(rt, &report, status)
         }
         Err(message) => fails_in_view(rt, voice, message, request.input()),
@@ -255,21 +313,6 @@ fn show_text<R: Files + Input + Print + Eprint + AllocGlobal>(
     }
 }
 
-// The boxes of the probe that a command line names, if it names one. Where they aren't read, it is told why, and the exit status is given.
-fn boxes_named<R: Files + Input + Eprint + AllocGlobal>(
-    rt: &R,
-    voice: Voice,
-    request: &Request<'_, '_>,
-) -> Result<Option<Boxes>, u8> {
-    let Some(name) = probe_named(request) else {
-        return Ok(None);
-    };
-    match boxes_of(rt, name) {
-        Ok(boxes) => Ok(Some(boxes)),
-        Err(unread) => Err(tell_unread(rt, voice, &unread, name)),
-    }
-}
-
 // The lines of a sheet, if the command line may name them; all lines where it names none.
 fn lines_asked(request: &Request<'_, '_>) -> Option<Lines> {
     if request.verb() == Verb::Picture {
@@ -290,12 +333,54 @@ fn show_lines<R: Files + Input + Print + Eprint + AllocGlobal>(
         Ok(setting) => setting,
         Err(told) => return fails_twice(rt, &told),
     };
-    match boxes_named(rt, voice, request) {
-        Ok(boxes) => {
+    match probe_named(request) {
+        Some(_) if draws_sheet(request) => fails(rt, NO_SHEET),
+        Some(probe) => show_whole_probed(rt, voice, request, &setting, lines, probe),
+        None => {
+            let boxes = None;
             let beside = Beside { lines, boxes };
             show_text(rt, voice, request, &setting, &beside)
         }
-        Err(status) => status,
+    }
+}
+
+// The same with the boxes of one probe, where they are tried.
+fn show_with_boxes<R: Files + Input + Print + Eprint + AllocGlobal>(
+    rt: &R,
+    voice: Voice,
+    request: &Request<'_, '_>,
+    setting: &NamedSetting,
+    lines: Lines,
+    boxes: Boxes,
+) -> u8 {
+    if !tries_boxes(request.verb()) {
+        return tell_one_probe(rt);
+    }
+    let boxes = Some(boxes);
+    let beside = Beside { lines, boxes };
+    show_text(rt, voice, request, setting, &beside)
+}
+
+// The same with the probe of a file, or with several.
+fn show_whole_probed<R: Files + Input + Print + Eprint + AllocGlobal>(
+    rt: &R,
+    voice: Voice,
+    request: &Request<'_, '_>,
+    setting: &NamedSetting,
+    lines: Lines,
+    probe: &str,
+) -> u8 {
+    let file = match bytes_of(rt, probe) {
+        Ok(file) => file,
+        Err(message) => return fails(rt, message),
+    };
+    match is_of_several(rt.alloc(), &file) {
+        Err(_) => fails(rt, Message::NoMemory),
+        Ok(true) => show_whole_several(rt, voice, request, setting, probe, &file),
+        Ok(false) => match read_boxes(rt.alloc(), &file) {
+            Ok(boxes) => show_with_boxes(rt, voice, request, setting, lines, boxes),
+            Err(fault) => tell_unread(rt, voice, &Unread::Refused(fault), probe),
+        },
     }
 }
 
@@ -306,6 +391,9 @@ pub(crate) fn show_whole<R: Files + Input + Print + Eprint + AllocGlobal>(
     voice: Voice,
     request: &Request<'_, '_>,
 ) -> u8 {
+    if request.verb() == Verb::Debug && probe_named(request).is_some() {
+        return fails(rt, NO_WHOLE);
+    }
     if let Err(message) = choices_of(rt.alloc(), request, &[], 0) {
         return fails(rt, message);
     }

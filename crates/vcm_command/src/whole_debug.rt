@@ -1,6 +1,6 @@
 //! A session of the debugger on a producer's text as it stands.
 
-use crate::whole_reading::tell_reading;
+use crate::whole_reading::{Selecting, tell_reading};
 use crate::whole_views::Running;
 use std::alloc::Global;
 use std::rt::Files;
@@ -19,7 +19,15 @@ pub(crate) fn debug_running<R: Files + Input + Print + Eprint + AllocGlobal>(
     match debug_text(rt, voice, name, part, given, &running.source) {
         Ok(()) => {
             let names = running.names.as_slice();
-            tell_reading(rt, voice, "", &running.facts, names, request);
+            tell_reading(
+                rt,
+                voice,
+                "",
+                Selecting::Part,
+                &running.facts,
+                names,
+                request,
+            );
             0
         }
         Err(message) => fails_in_view(rt, voice, message, name),

@@ -3,7 +3,7 @@
 use crate::choices::choices_of;
 use crate::whole::{NOT_ALL_TRIED, frames_named, unused_name, whole_from};
 use crate::whole_pages::place_of;
-use crate::whole_reading::put_reading;
+use crate::whole_reading::{Selecting, put_reading};
 use crate::whole_views::Running;
 use clap::Error;
 use clap::error::ErrorKind;
@@ -110,7 +110,15 @@ fn untried_of(alloc: Global, rows: &[Row], marking: &Marking) -> Result<Vec<Untr
 fn reading_of(alloc: Global, request: &Request<'_, '_>, running: &Running) -> Option<Vec<u8>> {
     let mut text = String::new(alloc);
     let names = running.names.as_slice();
-    put_reading(&mut text, "", &running.facts, names, request).ok()?;
+    put_reading(
+        &mut text,
+        "",
+        Selecting::Part,
+        &running.facts,
+        names,
+        request,
+    )
+    .ok()?;
     Some(text.into_bytes())
 }
 

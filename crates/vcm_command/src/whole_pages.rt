@@ -95,6 +95,7 @@ fn is_same(one: About, other: About) -> bool {
         (About::BeginsElsewhere, About::BeginsElsewhere) => true,
         (About::NotReported, About::NotReported) => true,
         (About::AnotherTip, About::AnotherTip) => true,
+        (About::NotInFile, About::NotInFile) => true,
         _ => false,
     }
 }

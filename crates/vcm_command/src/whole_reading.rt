@@ -10,6 +10,17 @@ use vcm_short_names::ShortName;
 use vcm_usage::Choice;
 use vcm_whole::Facts;
 
+/// What the selection of a sensor does to a run.
+#[derive(Clone, Copy)]
+pub(crate) enum Selecting {
+    /// Nothing: the tip of the part is taken.
+    Part,
+    /// It puts on a probe of a file.
+    Probe,
+    /// Nothing: a variable of the text puts on the probes of a file.
+    Variable,
+}
+
 // The name of a unit, as UNITS has it.
 fn unit_name(unit: Unit) -> &'static str {
     match unit {
@@ -54,46 +65,69 @@ fn put_names<W: fmt::Write>(out: &mut W, front: &str, names: &[ShortName]) -> fm
 }
 
 // Puts what is taken of a text because it doesn't say it.
-fn put_taken<W: fmt::Write>(out: &mut W, front: &str, facts: &Facts) -> fmt::Result {
+fn put_taken<W: fmt::Write>(
+    out: &mut W,
+    front: &str,
+    selecting: Selecting,
+    facts: &Facts,
+) -> fmt::Result {
     if !facts.says_unit {
         put_notice(out, front, "no UNITS: lengths are taken as millimetres")?;
     }
     if !facts.says_mode {
         put_notice(out, front, "no MODE: the text is taken as programmed")?;
     }
-    if !facts.says_sensor {
-        put_notice(out, front, "no SNSLCT: the tip of the part is taken")?;
+    if facts.says_sensor {
+        return Ok(());
     }
-    Ok(())
+    match selecting {
+        Selecting::Part => put_notice(out, front, "no SNSLCT: the tip of the part is taken"),
+        Selecting::Probe => put_notice(out, front, "no SNSLCT: no probe is on"),
+        Selecting::Variable => Ok(()),
+    }
 }
 
-// Puts which tip a text puts on that isn't that of the part.
-fn put_tip<W: fmt::Write>(out: &mut W, tip: &OtherTip) -> fmt::Result {
+// Whose tip is taken where a text puts on another one.
+fn owner_of(selecting: Selecting) -> &'static str {
+    match selecting {
+        Selecting::Part => "the part",
+        Selecting::Probe | Selecting::Variable => "its probe",
+    }
+}
+
+// Puts which tip a text puts on that isn't that of the part, or of its probe.
+fn put_tip<W: fmt::Write>(out: &mut W, selecting: Selecting, tip: &OtherTip) -> fmt::Result {
     let line = tip.line;
+    let owner = owner_of(selecting);
     match tip.width {
         Width::Wide(width) => {
             let (whole, part) = (width / 1_000_000, width / 1_000 % 1_000);
             writeln!(
                 out,
-                "the sensor of line {line} has a tip of {whole}.{part:03}, and not that of the part"
+                "the sensor of line {line} has a tip of {whole}.{part:03}, and not that of {owner}"
             )
         }
         Width::Unread => writeln!(
             out,
-            "the width of the tip of line {line} isn't followed: that of the part is taken"
+            "the width of the tip of line {line} isn't followed: that of {owner} is taken"
         ),
         Width::Unsaid => writeln!(
             out,
-            "no SNSDEF says the width of the tip of line {line}: that of the part is taken"
+            "no SNSDEF says the width of the tip of line {line}: that of {owner} is taken"
         ),
     }
 }
 
-// Puts which tips a text puts on that aren't that of the part.
-fn put_tips<W: fmt::Write>(out: &mut W, front: &str, tips: &[OtherTip]) -> fmt::Result {
+// Puts which tips a text puts on that aren't that of the part, or of their probe.
+fn put_tips<W: fmt::Write>(
+    out: &mut W,
+    front: &str,
+    selecting: Selecting,
+    tips: &[OtherTip],
+) -> fmt::Result {
     for tip in tips {
         put_front(out, front)?;
-        put_tip(out, tip)?;
+        put_tip(out, selecting, tip)?;
     }
     Ok(())
 }
@@ -191,14 +225,15 @@ fn put_harmless<W: fmt::Write>(out: &mut W, front: &str, request: &Request<'_, '
 pub(crate) fn put_reading<W: fmt::Write>(
     out: &mut W,
     front: &str,
+    selecting: Selecting,
     facts: &Facts,
     names: &[ShortName],
     request: &Request<'_, '_>,
 ) -> fmt::Result {
     put_names(out, front, names)?;
     if !facts.is_as_written {
-        put_taken(out, front, facts)?;
-        put_tips(out, front, facts.tips.as_slice())?;
+        put_taken(out, front, selecting, facts)?;
+        put_tips(out, front, selecting, facts.tips.as_slice())?;
         put_lengths(out, front, facts)?;
         put_words(out, front, "not looked at:", facts.unlooked.as_slice())?;
     }
@@ -224,11 +259,12 @@ pub(crate) fn tell_reading<R: Eprint>(
     rt: &R,
     voice: Voice,
     front: &str,
+    selecting: Selecting,
     facts: &Facts,
     names: &[ShortName],
     request: &Request<'_, '_>,
 ) {
     if !voice.is_quiet {
-        let _ = put_reading(&mut Errors { rt }, front, facts, names, request);
+        let _ = put_reading(&mut Errors { rt }, front, selecting, facts, names, request);
     }
 }

@@ -1,8 +1,8 @@
 -- How a run goes on behind a contact: the motion is taken as done.
-use Rattle.std.specs.Prelude.{ℕ, ◌-◌, if◌then◌else◌, List, length, slice_get, Option, Some, None, option_and_then}
+use Rattle.std.specs.Prelude.{ℕ, ◌-◌, ◌<◌, if◌then◌else◌, List, length, slice_get, Option, Some, None, option_and_then, IsTrue}
 use Rattle.vcm_num.specs.declared.axis.Axis.{Axis}
 use Rattle.vcm_num.specs.declared.point.Point.{Point}
-use Rattle.vcm_num.specs.Point.{coordinate}
+use Rattle.vcm_num.specs.Point.{coordinate, is_near}
 use Rattle.vcm_spec.specs.declared.feature.Feature.{Feature}
 use Rattle.vcm_spec.specs.declared.stop.Stop.TheVariants.{Collision, Missed}
 use Rattle.vcm_spec.specs.declared.words.MovePhase.{MovePhase}
@@ -11,10 +11,12 @@ use Rattle.vcm_spec.specs.declared.simple.Simple.TheVariants.{PtMeas}
 use Rattle.vcm_spec.specs.Effect.{measured_direction}
 use Rattle.vcm_spec.specs.Frame.{to_part}
 use Rattle.vcm_spec.specs.Outcome.{Outcome, Gives, Stops as Halts, ◌>>=◌, point_at}
-use Rattle.vcm_spec.specs.Workpiece.{Workpiece, is_blocked}
+use Rattle.vcm_spec.specs.Setup.{Tables}
+use Rattle.vcm_spec.specs.Workpiece.{Workpiece, is_blocked, is_within}
 use Rattle.vcm_spec.specs.World.{World}
 use Rattle.vcm_code.specs.Code.{Op}
 use Rattle.vcm_code.specs.declared.op.Op.TheVariants.{Plain}
+use Rattle.vcm_code.specs.Valid.{IsLast}
 use Rattle.vcm_marks.specs.declared.mark.Mark.{Mark}
 use Rattle.vcm_marks.specs.declared.mark.Mark.TheVariants.{Touches, Meets}
 use Rattle.vcm_marks.specs.declared.mark.Touched.{Touched}
@@ -77,3 +79,15 @@ abbrev pub lead : Workpiece → World → Op → MovePhase → Hit → Lead
 lead part w op phase hit =
     let marks : List Mark = marks_of part w.position w.settings (task_of part.bounds.home w op) (Some (Collision phase hit)) in
     lead_by part w op phase hit (aim_in marks) (touched_in marks)
+
+-- a point is within the limits of a workpiece, and near
+pub record IsThere (part : Workpiece) (p : Point) : Type 0 where
+  pub within : IsTrue (is_within part.bounds (coordinate p))
+  pub near : IsTrue (is_near p)
+
+-- a lead can be carried out behind a statement: its point is there, its feature is too, and where it goes on behind the statement, that isn't the last
+abbrev pub IsSound : Workpiece → Tables → Op → Lead → Type 0
+IsSound part tables op (On p) = IsThere part p × (IsLast op → ⊥)
+IsSound part tables op (Again p) = IsThere part p
+IsSound part tables op (Back p i f) = IsThere part p × ((i < length tables.features) × (IsLast op → ⊥))
+IsSound part tables op (Stops why) = Unit {0}

@@ -9,8 +9,7 @@ ghost use Rattle.vcm_spec.specs.declared.stop.Stop.TheVariants.{Collision};
 ghost use Rattle.vcm_code.specs.Checks.{OpFits};
 ghost use Rattle.vcm_way.specs.Steps.{TaskEnds};
 ghost use Rattle.vcm_way.specs.Tasks.{task_of};
-ghost use Rattle.vcm_contacts.specs.inner.Standing.{IsSound};
-ghost use Rattle.vcm_contacts.specs.Leading.{toward, feature_at, back_with, measured, aim_by, aim_in, touched_by, touched_in, lead_to, lead_by, lead};
+ghost use Rattle.vcm_contacts.specs.Leading.{toward, feature_at, back_with, measured, aim_by, aim_in, touched_by, touched_in, lead_to, lead_by, lead, IsSound};
 
 use crate::contact::Lead;
 use vcm_code::Op;
@@ -181,7 +180,7 @@ fn lead_of<P: Part>(
 }
 
 /// How a run goes on behind a statement that meets a block in a state of the machine, beside a workpiece whose blocks are given too.
-pub(crate) fn lead<P: Part>(
+pub fn lead<P: Part>(
     part: &P,
     blocks: &PartData,
     world: &World,
@@ -194,7 +193,7 @@ pub(crate) fn lead<P: Part>(
     requires near { IsTrue (is_near world.now.state.position) }
     requires ends { TaskEnds blocks.now world.now.state.position world.now.state.settings (task_of blocks.now.bounds.home world.now.state statement.now.op) (Some (Collision phase hit)) }
     ensures is { result ≡ lead blocks.now world.now.state statement.now.op phase hit }
-    ensures sound { IsSound world.now.tables statement.now.op result }
+    ensures sound { IsSound blocks.now world.now.tables statement.now.op result }
 {
     // It is called for what it tells of the workpiece: that it is valid.
     let _bounds = blocks.bounds();

@@ -10,5 +10,6 @@ mod passing;
 mod writing;
 
 pub use collecting::{Contacts, collect_contacts};
-pub use contact::Contact;
-pub use writing::write_contacts;
+pub use contact::{Contact, Lead};
+pub use leading::lead;
+pub use writing::{write_contacts, write_count, write_each};

@@ -58,8 +58,10 @@ fn write_named<W: Write>(
     names.write_once(Some(contact.hit.block), writer)
 }
 
-// Writes contacts, and the names of their blocks that are left.
-fn write_each<W: Write>(
+/// Writes contacts, a line for each, and the names of their blocks that are left.
+///
+/// Errors: the writer failed, or took no byte; then it has taken a front of the lines, and not all of them.
+pub fn write_each<W: Write>(
     contacts: &[Contact],
     names: &mut BlockNames,
     writer: &mut W,
@@ -104,8 +106,10 @@ fn write_some<W: Write>(count: usize, line: u32, writer: &mut W) -> Result<(), W
     )
 }
 
-// Writes how many contacts there are.
-fn write_count<W: Write>(contacts: &[Contact], writer: &mut W) -> Result<(), WriteFault>
+/// Writes how many contacts there are, and that what stands behind the first is a guess.
+///
+/// Errors: likewise.
+pub fn write_count<W: Write>(contacts: &[Contact], writer: &mut W) -> Result<(), WriteFault>
     ensures { Wrote (W.contents writer.old) (W.contents writer.new) (count_line contacts.now) result }
 {
     match contacts.split_first() {

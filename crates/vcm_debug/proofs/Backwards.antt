@@ -17,7 +17,7 @@ merge : (r : Option Reason) (x y z : Option RunEnd) (n : ℕ) → y ≡ first_of
 merge (Some w) x y z n e = refl
 merge None x y z n e = e
 
-again : (r : Option Reason) (n : ℕ) (x : Option RunEnd)
+pub again : (r : Option Reason) (n : ℕ) (x : Option RunEnd)
     → first_of (elim r [ Some w ↦ Some (ends_after n w) | None ↦ None ]) x ≡ elim r [ Some w ↦ Some (ends_after n w) | None ↦ x ]
 again (Some w) n x = refl
 again None n x = refl

@@ -3,8 +3,7 @@ use Rattle.std.proofs.Common.{◌≡◌, ℕ, suc, ◌+◌, ◌<◌, ℤ, Bool, 
 use Rattle.std.specs.Prelude.{Some, None}
 use Rattle.std.specs.Ordering.{int_eq}
 use Rattle.std.proofs.Math.Seq.{drop-cons}
-use Rattle.vcm_debug.specs.Halting.{changed_from}
-use Rattle.vcm_debug.specs.inner.Going.{some_watched}
+use Rattle.vcm_debug.specs.Halting.{changed_from, some_watched}
 
 -- one that has no watch, or whose value is the same
 passes_one : (k : ℕ) (w : Bool) (ws : List Bool) (b : ℤ) (bs : List ℤ) (n : ℤ) (ns : List ℤ) → (w ≡ false) ⊎ (int_eq b n ≡ true)

@@ -22,7 +22,7 @@ long_return : (b : Bool) (bs : List ℕ) → length bs ≤ length (if b then tak
 long_return true bs = (let e = length-take (length bs - 1) bs in omega (arith, e))
 long_return false bs = omega arith
 
-long_content : (bs : List ℕ) (ended : Bool) → length bs ≤ length (content bs ended) + 1
+pub long_content : (bs : List ℕ) (ended : Bool) → length bs ≤ length (content bs ended) + 1
 long_content bs true = long_return (slice_index_or bs (length bs - 1) 0 == 13) bs
 long_content bs false = omega arith
 
@@ -36,7 +36,7 @@ same_turn old new (x ∷ a) (y ∷ b) text last l m e t = record {
   last_is = t.last_is;
 }
 
-short_or_long : (n m : ℕ) → (n ≤ m) ⊎ (m < n)
+pub short_or_long : (n m : ℕ) → (n ≤ m) ⊎ (m < n)
 short_or_long n m = grind arith
 
 pub kept_exchange : (old new : Debugging) (raw text : List ℕ) (ended last : Bool) → IsExchange old (content (kept_of raw) ended) new text last → IsExchange old (content raw ended) new text last

@@ -11,8 +11,8 @@ use Rattle.vcm_console.specs.declared.reply.ServeFault.{ServeFault}
 use Rattle.vcm_console.specs.declared.reply.ServeFault.TheVariants.{Read, Write, TooMuch}
 use Rattle.vcm_console.specs.Reading.{TakesAtMost, IsNextOf, IsNext, BeginsWithLine, size, HasLine, ReadsLine, IsReadOrMuch}
 use Rattle.vcm_debug.specs.Debugging.{Debugging}
-use Rattle.vcm_debug.specs.Serving.{content, IsExchange, Serves, input_ends, no_line, no_byte, no_read, last_line, one_line, WritesSome, Writes, Served}
-use Rattle.vcm_debug.specs.inner.Exchanges.{HasExchanged, IsBye}
+use Rattle.vcm_debug.specs.Serving.{content, IsExchange, Serves, input_ends, no_line, no_byte, no_read, last_line, one_line, WritesSome, Writes, IsBye, Served}
+use Rattle.vcm_debug.specs.inner.Exchanges.{HasExchanged}
 use Rattle.vcm_debug.proofs.KeptLines.{kept_exchange}
 
 -- what was written before, and then some of a text
@@ -20,21 +20,21 @@ some_then : (a b c : Option (List ℕ)) (xs ys : List ℕ) → Appends a b xs �
 some_then a b c xs ys h (inl w) = inl (front_then a b c xs ys _ refl h w)
 some_then a b c xs ys h (inr w) = inr (appends_more a b c xs ys _ refl h w)
 
-writes_then : (a b c : Option (List ℕ)) (xs ys : List ℕ) (r : Result (Unit {0}) ServeFault) → Appends a b xs → Writes r b c ys → Writes r a c (xs ++ ys)
+pub writes_then : (a b c : Option (List ℕ)) (xs ys : List ℕ) (r : Result (Unit {0}) ServeFault) → Appends a b xs → Writes r b c ys → Writes r a c (xs ++ ys)
 writes_then a b c xs ys (Ok done) h w = appends_more a b c xs ys _ refl h w
 writes_then a b c xs ys (Err Write) h w = some_then a b c xs ys h w
 writes_then a b c xs ys (Err Read) h w = appends_more a b c xs ys _ refl h w
 writes_then a b c xs ys (Err TooMuch) h w = appends_more a b c xs ys _ refl h w
 
 -- what stands behind a line
-behind_line : (input raw rest : List ℕ) (ended : Bool) → BeginsWithLine input raw ended rest → rest ≡ drop (size raw ended) input
+pub behind_line : (input raw rest : List ℕ) (ended : Bool) → BeginsWithLine input raw ended rest → rest ≡ drop (size raw ended) input
 behind_line input raw rest true b =
     let n : length (raw ++ 10 ∷ []) ≡ length raw + 1 = length-append raw (10 ∷ []) in
     sym (ap (drop (length raw + 1)) (b.0 ∙ sym (append_assoc raw (10 ∷ []) rest)) ∙ drop_at (raw ++ 10 ∷ []) rest (length raw + 1) n)
 behind_line input raw rest false b = b.1 ∙ sym (ap (drop (length raw)) b.0 ∙ drop_all (length raw) raw (omega arith))
 
 -- a reader that failed has taken nothing
-kept_is : (rest : List ℕ) (later : Option (List ℕ)) → Keeps (Some rest) later → later ≡ Some rest
+pub kept_is : (rest : List ℕ) (later : Option (List ℕ)) → Keeps (Some rest) later → later ≡ Some rest
 kept_is rest None k = absurd k
 kept_is rest (Some x) k = ap Some k
 

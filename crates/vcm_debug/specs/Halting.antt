@@ -1,6 +1,7 @@
 -- Where a run of the debugger ends, and why.
 use Rattle.std.specs.Prelude.{◌≡◌, ℕ, zero, suc, ◌+◌, ◌<◌, ℤ, Bool, true, false, List, [], ◌∷◌, Option, Some, None, slice_get}
 use Rattle.std.specs.Prelude.{if◌then◌else◌}
+use Rattle.std.specs.List.{list_any}
 use Rattle.std.specs.Ordering.{int_eq}
 use Rattle.vcm_spec.specs.declared.stop.StopPlace.{StopPlace}
 use Rattle.vcm_code.specs.CodeTable.{code_effective}
@@ -15,6 +16,10 @@ changed_from index (w ∷ ws) [] now = None
 changed_from index (w ∷ ws) (b ∷ bs) [] = None
 changed_from index (true ∷ ws) (b ∷ bs) (n ∷ ns) = if int_eq b n then changed_from (index + 1) ws bs ns else Some index
 changed_from index (false ∷ ws) (b ∷ bs) (n ∷ ns) = changed_from (index + 1) ws bs ns
+
+-- a variable is watched
+abbrev pub some_watched : List Bool → Bool
+some_watched watches = list_any (λ w. w) watches
 
 -- a watched variable that has changed is a reason to end
 abbrev pub watch_reason : Option ℕ → Option Reason

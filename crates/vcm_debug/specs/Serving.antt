@@ -93,6 +93,10 @@ Writes (Err Write) old new text = WritesSome old new text
 Writes (Ok done) old new text = Appends old new text
 Writes (Err e) old new text = Appends old new text
 
+-- the last reply was written, or a front of it
+abbrev pub IsBye : Result (Unit {0}) ServeFault → Option (List ℕ) → Option (List ℕ) → Type 0
+IsBye r old new = MayEnd true r × Writes r old new (codes "bye\n")
+
 -- A session served at most n lines of at most `left` bytes of an input, and ended at another session: what it wrote is what it serves, and
 -- at most one byte is taken that it may not have
 pub record Served (n left : ℕ) (old : Debugging) (input : List ℕ) (after before written : Option (List ℕ))

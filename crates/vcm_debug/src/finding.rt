@@ -11,7 +11,7 @@ use vcm_loader::Loaded;
 use vcm_spec::Feature;
 
 /// The lowest statement of a source line.
-pub(crate) fn statement_on(loaded: &Loaded<'_>, line: u64) -> Option<u32>
+pub fn statement_on(loaded: &Loaded<'_>, line: u64) -> Option<u32>
     ensures { result ≡ position_from (λ s. s.line == line) 0 loaded.now.statements }
 {
     let count = loaded.statement_count();
@@ -24,7 +24,7 @@ pub(crate) fn statement_on(loaded: &Loaded<'_>, line: u64) -> Option<u32>
 }
 
 /// The feature that is recorded at an index.
-pub(crate) fn recorded(features: &[Option<Feature>], index: u16) -> Option<Feature>
+pub fn recorded(features: &[Option<Feature>], index: u16) -> Option<Feature>
     ensures { result ≡ recorded features.now index }
 {
     match features.get(index as usize) {
@@ -50,7 +50,7 @@ fn place_of_variable(wanted: &VariableRef, variables: &[Variable]) -> Option<usi
 }
 
 /// The lowest variable of this name, of at most 4,096.
-pub(crate) fn variable_of(tables: &Tables, wanted: &VariableRef) -> Option<u16>
+pub fn variable_of(tables: &Tables, wanted: &VariableRef) -> Option<u16>
     requires { length tables.now.variables ≤ 4096 }
     ensures place { result ≡ position (is_wanted wanted.now) tables.now.variables }
     ensures within { IfSome result (λ i. i < length tables.now.variables) }
@@ -77,7 +77,7 @@ fn place_of_name(name: &Name, names: &[Name]) -> Option<usize>
 }
 
 /// The lowest feature of this name, of at most 4,096.
-pub(crate) fn feature_of(tables: &Tables, name: &Name) -> Option<u16>
+pub fn feature_of(tables: &Tables, name: &Name) -> Option<u16>
     requires { length tables.now.features ≤ 4096 }
     ensures place { result ≡ position (λ x. bytes_eq x name.now) tables.now.features }
     ensures within { IfSome result (λ i. i < length tables.now.features) }

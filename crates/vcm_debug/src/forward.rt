@@ -3,8 +3,8 @@
 ghost use Rattle.std.specs.Prelude.{◌≡◌, ◌≤◌, ◌<◌, ◌+◌, ◌^◌, true, ℤ, List, length, All};
 ghost use Rattle.std.specs.Ordering.{int_eq};
 ghost use Rattle.vcm_machine.specs.Running.{Running};
-ghost use Rattle.vcm_debug.specs.Halting.{changed_from, reason};
-ghost use Rattle.vcm_debug.specs.inner.Going.{begun, some_watched, HasRun, HasStepped};
+ghost use Rattle.vcm_debug.specs.Halting.{changed_from, some_watched, reason};
+ghost use Rattle.vcm_debug.specs.inner.Going.{begun, HasRun, HasStepped};
 
 use crate::checkpoints::Checkpoints;
 use std::alloc::Global;
@@ -34,8 +34,8 @@ fn changed(watches: &[bool], before: &[i64], now: &[i64]) -> Option<u16>
     None
 }
 
-// The same, where the values before were noted only if a variable is watched.
-fn watched_change(noting: bool, watches: &[bool], before: &[i64], now: &[i64]) -> Option<u16>
+/// The lowest-numbered variable that has a watch and whose value differs, where the values before were noted only if a variable is watched.
+pub fn watched_change(noting: bool, watches: &[bool], before: &[i64], now: &[i64]) -> Option<u16>
     requires few { length watches.now ≤ 4096 }
     requires before { length watches.now ≡ length before.now }
     requires now { length watches.now ≡ length now.now }
@@ -84,15 +84,15 @@ pub(crate) fn values<'b, 'a, P: Part>(machine: &'b Machine<'a, P>) -> &'b [i64]
     machine.world().variables()
 }
 
-// Whether a variable is watched.
-pub(crate) fn has_watch(watches: &[bool]) -> bool
+/// Whether a variable is watched.
+pub fn has_watch(watches: &[bool]) -> bool
     ensures { result ≡ some_watched watches.now }
 {
     watches.iter().any(|watched| *watched)
 }
 
-// Notes the values of the variables, if they are wanted.
-pub(crate) fn note(noting: bool, before: &mut Vec<i64>, now: &[i64])
+/// Notes the values of the variables, if they are wanted.
+pub fn note(noting: bool, before: &mut Vec<i64>, now: &[i64])
     requires { length before.old.items ≡ length now.now }
     ensures room { length before.new.items ≡ length before.old.items }
     ensures noted { noting ≡ true → before.new.items ≡ now.now }

@@ -11,7 +11,9 @@ mod reversing;
 mod serving;
 mod session;
 
-pub use serving::serve;
+pub use finding::{feature_of, recorded, statement_on, variable_of};
+pub use forward::{has_watch, note, watched_change};
+pub use serving::{bye, content, flush, is_bye, serve};
 pub use session::Session;
 pub use vcm_console::{
     Command, CommandRefusal, Count, Halted, Reason, Reply, ServeFault, Standing, VariableRef,

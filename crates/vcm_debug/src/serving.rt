@@ -6,8 +6,8 @@ ghost use Rattle.vcm_num.specs.Written.{Wrote};
 ghost use Rattle.vcm_console.specs.Parsing.{command_of};
 ghost use Rattle.vcm_console.specs.Replies.{ReplyFits};
 ghost use Rattle.vcm_debug.specs.Debugging.{now};
-ghost use Rattle.vcm_debug.specs.Serving.{without_return, content, answer_text, is_bye, AnswersTo, Served};
-ghost use Rattle.vcm_debug.specs.inner.Exchanges.{HasExchanged, IsBye};
+ghost use Rattle.vcm_debug.specs.Serving.{without_return, content, answer_text, is_bye, AnswersTo, IsBye, Served};
+ghost use Rattle.vcm_debug.specs.inner.Exchanges.{HasExchanged};
 
 use crate::session::Session;
 use std::alloc::Global;
@@ -27,15 +27,15 @@ fn without_return(bytes: &[u8]) -> &[u8]
     bytes
 }
 
-// What a line says.
-fn content(bytes: &[u8], ended: bool) -> &[u8]
+/// What a line says: a carriage return in front of the line feed that ends it is no part of it.
+pub fn content(bytes: &[u8], ended: bool) -> &[u8]
     ensures { result.now ≡ content bytes.now ended }
 {
     if ended { without_return(bytes) } else { bytes }
 }
 
-// Whether an answer ends the session.
-fn is_bye(told: Result<Reply, Halted>) -> bool
+/// Whether an answer ends a session.
+pub fn is_bye(told: Result<Reply, Halted>) -> bool
     ensures { result ≡ is_bye told }
 {
     match told {
@@ -76,8 +76,10 @@ fn write_answer<P: Part, W: Write>(
     }
 }
 
-// Hands on what a writer has taken.
-fn flush<W: Write>(writer: &mut W) -> Result<(), WriteFault>
+/// Hands on what a writer has taken.
+///
+/// Errors: the writer failed.
+pub fn flush<W: Write>(writer: &mut W) -> Result<(), WriteFault>
     ensures { Keeps (W.contents writer.old) (W.contents writer.new) }
 {
     match writer.flush() {
@@ -110,8 +112,10 @@ fn answer<P: Part, W: Write>(
     }
 }
 
-// Writes the last reply.
-fn bye<W: Write>(writer: &mut W) -> Result<(), ServeFault>
+/// Writes the last reply, and hands it on.
+///
+/// Errors: the writer failed, or took no byte; then it has taken the reply or a front of it.
+pub fn bye<W: Write>(writer: &mut W) -> Result<(), ServeFault>
     ensures { IsBye result (W.contents writer.old) (W.contents writer.new) }
 {
     match write_all(writer, b"bye\n") {

@@ -1,7 +1,7 @@
 //! A session of the debugger on the standard devices.
 
 use crate::hand::{debug_put, debug_typed};
-use crate::parts::part_given;
+use crate::parts::named_part_given;
 use crate::printing::{output, written};
 use crate::request::Request;
 use crate::talking::{Voice, fails_in, fails_twice, tell_notices};
@@ -19,6 +19,7 @@ fn debug_beside<'a, R: Files + Input + Print + Eprint + AllocGlobal>(
     voice: Voice,
     name: &'a str,
     part: &PartData,
+    block_names: &[Vec<u8>],
 ) -> Result<Vec<Noticed>, Message<'a>> {
     let Ok(_) = rt.reader().read(&mut []) else {
         return Err(Message::Read {
@@ -30,7 +31,7 @@ fn debug_beside<'a, R: Files + Input + Print + Eprint + AllocGlobal>(
     };
     let mut out = output(rt)?;
     let done = if voice.is_by_hand {
-        debug_typed(rt, part, &mut file, &mut out)
+        debug_typed(rt, voice.is_painted, part, block_names, &mut file, &mut out)
     } else {
         debug(rt.alloc(), part, &mut file, &mut rt.reader(), &mut out)
     };
@@ -47,7 +48,7 @@ pub fn debug_text<'a, R: Input + Print + Eprint + AllocGlobal>(
     text: &[u8],
 ) -> Result<(), Message<'a>> {
     let mut out = output(rt)?;
-    let done = debug_put(rt, voice.is_by_hand, part, given, text, &mut out);
+    let done = debug_put(rt, voice, part, given, text, &mut out);
     written(&mut out, done.map_err(|fault| message_of(fault, name)))
 }
 
@@ -68,12 +69,12 @@ pub fn debug_file<R: Files + Input + Print + Eprint + AllocGlobal>(
     voice: Voice,
     request: &Request<'_, '_>,
 ) -> u8 {
-    let part = match part_given(rt, voice, request) {
-        Ok(part) => part,
+    let (part, names) = match named_part_given(rt, voice, request) {
+        Ok(named) => named,
         Err(told) => return fails_twice(rt, &told),
     };
     let name = request.input();
-    match debug_beside(rt, voice, name, &part) {
+    match debug_beside(rt, voice, name, &part, names.as_slice()) {
         Ok(notices) => {
             tell_notices(rt, voice, notices.as_slice());
             0

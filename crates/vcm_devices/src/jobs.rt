@@ -78,6 +78,7 @@ const AT_TERMINAL: Voice = Voice {
     is_summary: true,
     is_quiet: false,
     is_by_hand: false,
+    is_painted: false,
     may_be_whole: false,
 };
 

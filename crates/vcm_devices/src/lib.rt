@@ -21,7 +21,9 @@ pub use closing::fails_unless_closed;
 pub use debugging::{debug_file, debug_text, unread_input};
 pub use files::{asm_file, build_file, check_file, list_file};
 pub use jobs::run_job;
-pub use pages::{boxes_element_of, names_element, put_name, show_page, show_page_with, story_of};
+pub use pages::{
+    boxes_element_of, names_element, put_name, show_page, show_page_with, story_of, why_element,
+};
 pub use parts::{PartFile, moved_part, part_file_given, part_file_of, part_of, show_part};
 pub use printing::{
     DASH, Outlet, Output, STANDARD_INPUT, bytes_of, fails, output, print_bytes, status_after,

@@ -177,10 +177,15 @@ fn put_text(out: &mut Vec<u8>, text: &[u8]) -> Result<(), RunFault> {
     Ok(())
 }
 
-// The element of a page that has what `vcm why` told of the run; nothing where that came to the end of its program, or didn't stop.
-fn why_element(alloc: Global, told: &[u8]) -> Result<Vec<u8>, RunFault> {
+// Whether a text tells why a run stopped before the end of its program.
+fn tells_stop(told: &[u8]) -> bool {
+    told.starts_with(b"stop ") && !told.starts_with(b"stop ENDED")
+}
+
+/// The element of a page that has what `vcm why` tells of the run; nothing where the run came to the end of its program, or didn't stop.
+pub fn why_element(alloc: Global, told: &[u8]) -> Result<Vec<u8>, RunFault> {
     let mut out = Vec::new(alloc);
-    if told.starts_with(b"stop ") && !told.starts_with(b"stop ENDED") {
+    if tells_stop(told) {
         put(&mut out, b"<script type=\"text/plain\" id=\"why\">\n")?;
         put_text(&mut out, told)?;
         put(&mut out, b"</script>\n")?;
@@ -191,15 +196,13 @@ fn why_element(alloc: Global, told: &[u8]) -> Result<Vec<u8>, RunFault> {
 // The same of a run of what was given.
 fn why_element_of(
     alloc: Global,
-    subject: &Subject<'_>,
+    part: &PartData,
+    block_names: &[Vec<u8>],
     given: &Given,
     steps: u64,
 ) -> Result<Vec<u8>, RunFault> {
     let mut told = Vec::new(alloc);
-    let view = Why {
-        block_names: subject.block_names,
-    };
-    match show(alloc, &view, given, subject.part, steps, &mut told) {
+    match show(alloc, &Why { block_names }, given, part, steps, &mut told) {
         Ok(_) => why_element(alloc, &told),
         Err(RunFault::Write { .. }) => Err(RunFault::NoMemory),
         Err(fault) => Err(fault),
@@ -274,7 +277,7 @@ fn write_page<I: Read, W: Write>(
     let part = subject.part;
     let names = names_element(alloc, subject.block_names)?;
     let boxes = boxes_element_of(alloc, part, subject.boxes, &[], &given, steps)?;
-    let why = why_element_of(alloc, subject, &given, steps)?;
+    let why = why_element_of(alloc, part, subject.block_names, &given, steps)?;
     let back = back_with(alloc, &names, &boxes, &why)?;
     let front = front();
     let texts = Texts {

@@ -28,6 +28,8 @@ pub struct Voice {
     pub is_quiet: bool,
     /// Whether the debugger is talked to by hand.
     pub is_by_hand: bool,
+    /// Whether standard error shows colours.
+    pub is_painted: bool,
     /// Whether the command takes a producer's text as it stands, and wasn't asked to.
     pub may_be_whole: bool,
 }
@@ -41,6 +43,7 @@ pub fn voice_of(request: &Request<'_, '_>, terminals: Terminals) -> Voice {
         is_summary,
         is_quiet: request.has(Choice::Quiet),
         is_by_hand: terminals.input && terminals.errors || talks,
+        is_painted: terminals.errors,
         may_be_whole: request.usage().takes(Choice::Whole) && !request.has(Choice::Whole),
     }
 }
@@ -51,6 +54,7 @@ pub(crate) const OF_JOBS: Voice = Voice {
     is_summary: false,
     is_quiet: false,
     is_by_hand: false,
+    is_painted: false,
     may_be_whole: false,
 };
 

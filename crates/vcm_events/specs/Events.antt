@@ -8,7 +8,7 @@ use Rattle.vcm_forms.specs.declared.statement.Form.{Form}
 use Rattle.vcm_forms.specs.declared.statement.Form.TheVariants.{Assignment}
 use Rattle.vcm_forms.specs.Statements.{as_read}
 use Rattle.vcm_events.specs.declared.event.Event.{Event}
-use Rattle.vcm_events.specs.declared.event.Event.TheVariants.{Mode, OwnPoints, Table, Scanning, Unit, Approach, Search, Retract, Clearance, Compensation, Qualification, Target, Place, Untried, UntriedPoint, Values, Features, Frames, Frame, Saving, Machine, Points, Sensor, Angle, Plane, Polar, PolarMotion, PolarPoint, Bind, Origins, Origin, CaseValue, DropFrame, DropFeature, StoreFrame, Width, Remake, Depth, Unreported, CaseBegins, Ends, All}
+use Rattle.vcm_events.specs.declared.event.Event.TheVariants.{Mode, OwnPoints, Table, Scanning, Unit, Approach, Search, Retract, Clearance, Compensation, Qualification, Target, Place, Untried, UntriedPoint, Values, Features, Frames, Frame, Saving, Machine, Points, Sensor, Probe, Angle, Plane, Polar, PolarMotion, PolarPoint, Bind, Origins, Origin, CaseValue, DropFrame, DropFeature, StoreFrame, Width, Remake, Depth, Unreported, CaseBegins, Ends, All}
 
 -- the names of the variables of events: no text can write them, since a variable of a text begins with a letter
 abbrev pub event_name : Event → List ℕ
@@ -35,6 +35,7 @@ event_name Saving = codes "0SAVING"
 event_name Machine = codes "0MACHINE"
 event_name Points = codes "0POINTS"
 event_name Sensor = codes "0SENSOR"
+event_name Probe = codes "0PROBE"
 event_name Angle = codes "0ANGLE"
 event_name Plane = codes "0PLANE"
 event_name Polar = codes "0POLAR"
@@ -81,6 +82,7 @@ event_named name = look_up
     ∷ (codes "0MACHINE", Machine)
     ∷ (codes "0POINTS", Points)
     ∷ (codes "0SENSOR", Sensor)
+    ∷ (codes "0PROBE", Probe)
     ∷ (codes "0ANGLE", Angle)
     ∷ (codes "0PLANE", Plane)
     ∷ (codes "0POLAR", Polar)

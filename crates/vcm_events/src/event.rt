@@ -59,6 +59,8 @@ pub enum Event {
     Points,
     /// Which sensor is selected.
     Sensor,
+    /// Which probe of a file is selected, by its number: 0 is none of the file's.
+    Probe,
     /// The unit of angles.
     Angle,
     /// The plane that polar places are in.
@@ -128,6 +130,7 @@ impl Event {
             Event::Machine => b"0MACHINE",
             Event::Points => b"0POINTS",
             Event::Sensor => b"0SENSOR",
+            Event::Probe => b"0PROBE",
             Event::Angle => b"0ANGLE",
             Event::Plane => b"0PLANE",
             Event::Polar => b"0POLAR",
@@ -179,6 +182,7 @@ impl Event {
                 (b"0MACHINE", Event::Machine),
                 (b"0POINTS", Event::Points),
                 (b"0SENSOR", Event::Sensor),
+                (b"0PROBE", Event::Probe),
                 (b"0ANGLE", Event::Angle),
                 (b"0PLANE", Event::Plane),
                 (b"0POLAR", Event::Polar),

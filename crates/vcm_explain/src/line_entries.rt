@@ -30,7 +30,29 @@ A second line, below a refusal: `in part.toml` is the file that was refused. In 
     },
 ];
 
-const WHY: [Entry; 5] = [
+const WHY: [Entry; 8] = [
+    Entry {
+        keys: &["past a limit"],
+        text: "past a limit
+A line of `vcm why`: the coordinate of the tip's centre, in machine coordinates, with
+which the motion would leave the limits of the part file, and the limit.",
+    },
+    Entry {
+        keys: &[
+            "the next block on that line",
+            "no block lies farther on that line",
+        ],
+        text: "the next block on that line
+A line of `vcm why`, where a search has touched nothing: which block stands nearest past
+its end, and how much farther the tip would have to go to touch it. A number that is as
+great as a step of the part, or no block at all, is a sign of another frame or place.",
+    },
+    Entry {
+        keys: &["a retract of"],
+        text: "a retract of
+A line of `vcm why`, where the way back from a touch meets a block: with SNSET/RETRCT of
+that length, or less, it doesn't meet this block.",
+    },
     Entry {
         keys: &["contact of the tip's centre"],
         text: "contact of the tip's centre
@@ -101,7 +123,7 @@ the statement of that line names a frame, `--frame` says where it lies.",
     },
 ];
 
-const WHOLE: [Entry; 6] = [
+const WHOLE: [Entry; 8] = [
     Entry {
         keys: &["begins elsewhere"],
         text: "begins elsewhere
@@ -116,6 +138,20 @@ on which the run stops: where the machine's probe stands isn't known since that 
 After a run with `--whole`: at these lines another sensor is selected than before. What
 comes behind them is tried with the tip of the part all the same, so it says nothing of
 another one.",
+    },
+    Entry {
+        keys: &["not in the probe file"],
+        text: "not in the probe file
+After a run with `--whole` and a file of several probes: this line selects a probe by a
+name that the file hasn't. No probe of the file is on behind it, so the run ends before
+the next motion with `no probe 0`, unless one is selected before that.",
+    },
+    Entry {
+        keys: &["frame of line"],
+        text: "frame of line
+A line of `vcm why`: the statement that made the current frame (TRANS, ROTATE or RECALL),
+where the frame's origin lies in machine coordinates, and along which axes of the machine
+its own go. A point that is missed, or met too soon, often stands in another frame.",
     },
     Entry {
         keys: &["frame"],

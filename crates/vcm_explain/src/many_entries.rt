@@ -2,7 +2,7 @@
 
 use crate::entry::Entry;
 
-const MANY: [Entry; 5] = [
+const MANY: [Entry; 6] = [
     Entry {
         keys: &["at place"],
         text: "at place
@@ -38,6 +38,12 @@ memory, or couldn't be read. The status is the worst of theirs.",
         text: "no part
 Of a program of `vcm judge`: its part file isn't there. That of a/b.dmi is a/b.toml. What
 to do: give the part file that name, or name one for all programs by `--part`.",
+    },
+    Entry {
+        keys: &["at"],
+        text: "at
+A line of `vcm clearance`, below a body that is clear: with its sides moved out by so many
+micrometres, one more than it has room, the body meets this block, there.",
     },
 ];
 

@@ -165,7 +165,14 @@ gives: B12 NoVariable TOOL",
     },
 ];
 
-const TURNS: [Entry; 6] = [
+const TURNS: [Entry; 7] = [
+    Entry {
+        keys: &["this file has one probe"],
+        text: "this file has one probe
+Of a probe file without the key `probe` only its boxes could be tried, which `vcm clearance`
+and `vcm view` do. The other commands take files of several probes with `--probe`, since
+these change where the tip stands.",
+    },
     Entry {
         keys: &["first"],
         text: "first

@@ -104,7 +104,7 @@ gives: stop UNDEFINED FA(P1) at 1 line 4",
     },
 ];
 
-const NOTICE: [Entry; 4] = [
+const NOTICE: [Entry; 5] = [
     Entry {
         keys: &["BADSETTING"],
         text: "BADSETTING
@@ -127,6 +127,12 @@ Do: look for a loop that doesn't end, or divide the run.",
 given. The position is that after these steps. Status 4.
 Do: a program that should have ended has a loop without end: `vcm debug` shows which;
 else give a greater `--steps`, at most 1,000,000,000.",
+    },
+    Entry {
+        keys: &["notice: the boxes and the swing of the probes"],
+        text: "notice: the boxes and the swing of the probes
+With a file of several probes: the head turns in the run, and the tip stands where it puts
+it, but shaft, head and swing aren't tried by this command. `vcm clearance` tries them.",
     },
     Entry {
         keys: &["notice"],

@@ -12,7 +12,7 @@ use Rattle.vcm_given.specs.Tips.{other_tips}
 use Rattle.vcm_given.specs.Chosen.{asked_from, chosen_by, chosen}
 
 pub by_these : (c : Choices) (ls : List Logical) (qs : List Asked) (ps : List Spoken) (ts : List OtherTip) (ss out : List Statement)
-    → qs ≡ asked_from (fitting_answers c.answers ls) false ls → ps ≡ spoken c.harmless c.table ls → ts ≡ other_tips c.tip ls → out ≡ chosen_by c qs ps ts ss → out ≡ chosen c ls ss
+    → qs ≡ asked_from (fitting_answers c.answers ls) false ls → ps ≡ spoken c.probes c.harmless c.table ls → ts ≡ other_tips c.probes c.tip ls → out ≡ chosen_by c qs ps ts ss → out ≡ chosen c ls ss
 by_these c ls qs ps ts ss out a s t e =
     e ∙ ap (λ x. chosen_by c x ps ts ss) a ∙ ap (λ x. chosen_by c (asked_from (fitting_answers c.answers ls) false ls) x ts ss) s
-    ∙ ap (λ x. chosen_by c (asked_from (fitting_answers c.answers ls) false ls) (spoken c.harmless c.table ls) x ss) t
+    ∙ ap (λ x. chosen_by c (asked_from (fitting_answers c.answers ls) false ls) (spoken c.probes c.harmless c.table ls) x ss) t

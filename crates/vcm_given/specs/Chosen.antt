@@ -36,7 +36,7 @@ use Rattle.vcm_given.specs.declared.answers.Asked.{Asked}
 use Rattle.vcm_given.specs.Values.{given_value}
 use Rattle.vcm_given.specs.Texts.{fitting_answers}
 use Rattle.vcm_given.specs.declared.spoken.Saying.{Saying}
-use Rattle.vcm_given.specs.declared.spoken.Saying.TheVariants.{Harmless, Back, Same}
+use Rattle.vcm_given.specs.declared.spoken.Saying.TheVariants.{Harmless, Back, Same, Probe, Unclear}
 use Rattle.vcm_given.specs.declared.spoken.Spoken.{Spoken}
 use Rattle.vcm_given.specs.declared.tips.OtherTip.{OtherTip}
 use Rattle.vcm_given.specs.Spoken.{spoken, saying_at}
@@ -44,7 +44,7 @@ use Rattle.vcm_given.specs.Tips.{other_tips, is_other_at}
 
 -- choices that leave everything as the text says it, for a tip that is a point
 abbrev pub no_choices : Choices
-no_choices = record { approach = None; retract = None; search = None; frames = []; answers = []; is_auto = false; is_approached = false; tip = pos 0; harmless = []; table = None }
+no_choices = record { approach = None; retract = None; search = None; frames = []; answers = []; is_auto = false; is_approached = false; tip = pos 0; harmless = []; table = None; probes = [] }
 
 -- whether something is left to the text
 abbrev pub is_left : {A : Type 0} → Option A → Bool
@@ -57,10 +57,14 @@ is_empty [] = true
 is_empty (x ∷ xs) = false
 
 -- whether choices say nothing of a text that is read in one way; how MODE/AUTO is read and how wide the tip is changes none
-abbrev pub is_silent : Choices → Bool
-is_silent c =
+abbrev pub is_unsaid : Choices → Bool
+is_unsaid c =
     is_left c.approach && (is_left c.retract && (is_left c.search && (is_empty c.frames && (is_empty c.answers && (not c.is_approached
     && (is_empty c.harmless && is_left c.table))))))
+
+-- the same, and no file has probes
+abbrev pub is_silent : Choices → Bool
+is_silent c = is_unsaid c && is_empty c.probes
 
 -- ---- frames
 
@@ -193,9 +197,11 @@ is_back_by s f = false
 abbrev pub spoken_form : Option Saying → Form → List Form → List Form
 spoken_form s f fs = if is_dropped_by s f then [] else if is_back_by s f then gained events.Table ∷ [] else fs
 
--- the selection of a sensor that was selected before, by the line of that
+-- the selection of a sensor that was selected before, by the line of that; of a probe of a file, by its number; of what may be a parameter, as one that isn't known
 abbrev pub again : Option Saying → Form → Form
 again (Some (Same n)) f = if is_event events.Sensor f then event_form events.Sensor (pos n) else f
+again (Some (Probe n)) f = if is_event events.Sensor f then event_form events.Probe (pos n) else f
+again (Some Unclear) f = if is_event events.Sensor f then lost events.Sensor else f
 again s f = f
 
 -- that a tip of another width is put on, behind the sensor
@@ -239,4 +245,4 @@ chosen_by c qs ps ts ss = take 2 ss ++ (on_line 1 (chosen_first c) ++ flat_map (
 
 -- the statements that the lines of a text say, with what is given
 abbrev pub chosen : Choices → List Logical → List Statement → List Statement
-chosen c ls ss = chosen_by c (asked_from (fitting_answers c.answers ls) false ls) (spoken c.harmless c.table ls) (other_tips c.tip ls) ss
+chosen c ls ss = chosen_by c (asked_from (fitting_answers c.answers ls) false ls) (spoken c.probes c.harmless c.table ls) (other_tips c.probes c.tip ls) ss

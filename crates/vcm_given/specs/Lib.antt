@@ -1,7 +1,9 @@
 pub mod Values
 pub mod Texts
 pub mod Fields
-pub mod Tips
 pub mod Spoken
+pub mod Tips
+pub mod Missing
 pub mod Chosen
+pub mod Samples
 pub mod Unused

@@ -11,8 +11,9 @@ use Rattle.vcm_heads.specs.Heads.{past, past_word, title_at, major_of, behind_of
 use Rattle.vcm_heads.specs.Rows.{row_in, words_of}
 use Rattle.vcm_heads.specs.Steps.{◌>>=◌}
 use Rattle.vcm_given.specs.declared.spoken.Saying.{Saying}
-use Rattle.vcm_given.specs.declared.spoken.Saying.TheVariants.{Harmless, Back, Same}
+use Rattle.vcm_given.specs.declared.spoken.Saying.TheVariants.{Harmless, Back, Same, Probe, Unclear}
 use Rattle.vcm_given.specs.declared.spoken.Spoken.{Spoken}
+use Rattle.vcm_given.specs.declared.choices.GivenProbe.{GivenProbe}
 use Rattle.vcm_given.specs.Fields.{last_of}
 
 -- ---- harmless statements
@@ -168,15 +169,48 @@ abbrev pub same_as : Option ℕ → Option Saying
 same_as None = None
 same_as (Some n) = Some (Same n)
 
+-- ---- probes of a file
+
+-- whether there are none
+abbrev pub no_probes : List GivenProbe → Bool
+no_probes [] = true
+no_probes (p ∷ ps) = false
+
+-- the number of the probe with this name, 0 where the file has none
+abbrev pub number_of : List ℕ → List GivenProbe → ℕ
+number_of name [] = 0
+number_of name (p ∷ ps) = if bytes_eq p.name name then p.number else number_of name ps
+
+-- whether a statement begins a macro that has a parameter of this name
+abbrev pub has_parameter : List ℕ → Logical → Bool
+has_parameter name l = bytes_eq (major_of (words_of l)) (codes "MACRO") && list_any (is_word name) (behind_of (words_of l))
+
+-- whether a text has one
+abbrev pub is_parameter : List ℕ → List Logical → Bool
+is_parameter name ls = list_any (has_parameter name) ls
+
+-- what is said of a selection of this name, by these probes: what is a parameter's name may stand for any other
+abbrev pub probe_said : List GivenProbe → List Logical → List ℕ → Saying
+probe_said ps ls name = if is_parameter name ls then Unclear else Probe (number_of name ps)
+
+-- the same of a statement
+abbrev pub probe_saying : List GivenProbe → List Logical → Option (List ℕ × Bool) → Option Saying
+probe_saying ps ls None = None
+probe_saying ps ls (Some s) = Some (probe_said ps ls s.0)
+
+-- what is said of a selection: by the probes of a file, or by the line that selected the same sensor first
+abbrev pub selection_saying : List GivenProbe → List Logical → Option (List ℕ × Bool) → Option Saying
+selection_saying ps ls s = if no_probes ps then same_as (first_of ls s) else probe_saying ps ls s
+
 -- ---- statements
 
--- what is said of a statement: with these words as harmless, and a table that stands at this angle at the start
-abbrev pub saying_of : List (List ℕ) → Option ℕ → List Logical → Logical → Option Saying
-saying_of names angle ls l =
+-- what is said of a statement: by these probes, with these words as harmless, and a table that stands at this angle at the start
+abbrev pub saying_of : List GivenProbe → List (List ℕ) → Option ℕ → List Logical → Logical → Option Saying
+saying_of ps names angle ls l =
     if is_harmless names l then Some Harmless
     else if chooses_lone ls l then Some Harmless
     else if turns_back angle ls l then Some Back
-    else same_as (first_of ls (selected l))
+    else selection_saying ps ls (selected l)
 
 -- the same on its line
 abbrev pub spoken_on : ℕ → Option Saying → List Spoken
@@ -184,12 +218,12 @@ spoken_on line None = []
 spoken_on line (Some s) = record { line = line; saying = s } ∷ []
 
 -- the same of a statement, among those of its text
-unfoldable pub spoken_by : List (List ℕ) → Option ℕ → List Logical → Logical → List Spoken
-spoken_by names angle ls l = spoken_on l.line (saying_of names angle ls l)
+unfoldable pub spoken_by : List GivenProbe → List (List ℕ) → Option ℕ → List Logical → Logical → List Spoken
+spoken_by ps names angle ls l = spoken_on l.line (saying_of ps names angle ls l)
 
 -- what is said of a text's statements
-abbrev pub spoken : List (List ℕ) → Option ℕ → List Logical → List Spoken
-spoken names angle ls = flat_map (spoken_by names angle ls) ls
+abbrev pub spoken : List GivenProbe → List (List ℕ) → Option ℕ → List Logical → List Spoken
+spoken ps names angle ls = flat_map (spoken_by ps names angle ls) ls
 
 -- what is said of the statement on a line
 abbrev pub saying_at : ℕ → List Spoken → Option Saying

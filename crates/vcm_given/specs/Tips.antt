@@ -13,7 +13,9 @@ use Rattle.vcm_heads.specs.Rows.{row_in, words_of}
 use Rattle.vcm_given.specs.declared.tips.Width.{Width}
 use Rattle.vcm_given.specs.declared.tips.Width.TheVariants.{Wide, Unread, Unsaid}
 use Rattle.vcm_given.specs.declared.tips.OtherTip.{OtherTip}
+use Rattle.vcm_given.specs.declared.choices.GivenProbe.{GivenProbe}
 use Rattle.vcm_given.specs.Fields.{last_of}
+use Rattle.vcm_given.specs.Spoken.{no_probes}
 
 -- a title that is found, or else another one
 abbrev pub either_title : (a b : Option (List ℕ × List Lexeme)) → Option (List ℕ × List Lexeme)
@@ -69,24 +71,38 @@ abbrev pub tip_on : ℕ → Option Width → List OtherTip
 tip_on line None = []
 tip_on line (Some w) = record { line = line; width = w } ∷ []
 
+-- half the width of the tip of the probe with this name, if the file has one
+abbrev pub tip_named : List ℕ → List GivenProbe → Option ℤ
+tip_named name [] = None
+tip_named name (p ∷ ps) = if bytes_eq p.name name then Some p.tip else tip_named name ps
+
+-- that of the tip that is put on by this name: of the part, where no file has probes
+abbrev pub own_tip : List GivenProbe → ℤ → List ℕ → Option ℤ
+own_tip ps tip name = if no_probes ps then Some tip else tip_named name ps
+
+-- the width that is defined, on a line that puts on a tip of this half width, if it is known
+abbrev pub tip_beside : ℕ → Option ℤ → Option (Option ℕ) → List OtherTip
+tip_beside line None w = []
+tip_beside line (Some tip) w = tip_on line (other_width tip w)
+
 -- the tip of a sensor that is selected on a line
-abbrev pub selected_on : ℤ → List Logical → ℕ → Option (List ℕ × List Lexeme) → List OtherTip
-selected_on tip ls line None = []
-selected_on tip ls line (Some l) = tip_on line (other_width tip (width_of l.0 ls))
+abbrev pub selected_on : List GivenProbe → ℤ → List Logical → ℕ → Option (List ℕ × List Lexeme) → List OtherTip
+selected_on ps tip ls line None = []
+selected_on ps tip ls line (Some l) = tip_beside line (own_tip ps tip l.0) (width_of l.0 ls)
 
 -- whether a row is that of SNSLCT
 abbrev pub is_selection : Row → Bool
 is_selection row.Sensor = true
 is_selection r = false
 
--- the tip that a statement puts on, where it isn't that of the part
-abbrev pub tip_by : ℤ → List Logical → Logical → List OtherTip
-tip_by tip ls l =
-    if is_selection (row_in (words_of l)) then selected_on tip ls l.line (sensor_in (past marks.Slash (behind_of (words_of l)))) else []
+-- the tip that a statement puts on, where it isn't that of the part, or of its probe
+abbrev pub tip_by : List GivenProbe → ℤ → List Logical → Logical → List OtherTip
+tip_by ps tip ls l =
+    if is_selection (row_in (words_of l)) then selected_on ps tip ls l.line (sensor_in (past marks.Slash (behind_of (words_of l)))) else []
 
--- the tips that a text puts on that aren't that of the part, of this half width
-abbrev pub other_tips : ℤ → List Logical → List OtherTip
-other_tips tip ls = flat_map (tip_by tip ls) ls
+-- the tips that a text puts on that aren't that of the part, of this half width, or that of their probe
+abbrev pub other_tips : List GivenProbe → ℤ → List Logical → List OtherTip
+other_tips ps tip ls = flat_map (tip_by ps tip ls) ls
 
 -- whether a tip is another one: its width is, or can't be read
 abbrev pub is_other : Width → Bool

@@ -1,7 +1,7 @@
 //! What a command line says of the machine and of the course of a run.
 
 ghost use Rattle.std.specs.Prelude.{◌≡◌};
-ghost use Rattle.vcm_given.specs.Chosen.{no_choices, is_silent};
+ghost use Rattle.vcm_given.specs.Chosen.{no_choices, is_unsaid, is_silent};
 
 use std::alloc::Global;
 use vcm_items::{Name, VariableName};
@@ -39,6 +39,14 @@ pub struct Answer {
     pub value: Value,
 }
 
+/// A probe of a file of several: its name, as the text has it, its number, and half the width of its tip in micrometres.
+#[derive(Drop)]
+pub struct GivenProbe {
+    pub name: Items<u8>,
+    pub number: u32,
+    pub tip: i32,
+}
+
 /// What a command line says. Lengths are in micrometres.
 #[derive(Drop)]
 pub struct Choices {
@@ -60,12 +68,14 @@ pub struct Choices {
     pub harmless: Items<Name>,
     /// Where the rotary table stands at the start, in millionths of a degree.
     pub table: Option<u64>,
+    /// The probes of a file of several, one of which SNSLCT puts on; without such a file there are none.
+    pub probes: Items<GivenProbe>,
 }
 
 impl Choices {
-    /// Whether they say nothing of a text that is read in one way.
-    pub fn is_silent(&self) -> bool
-        ensures { result ≡ is_silent self.now }
+    // Whether they say nothing of a text that is read in one way, but for probes.
+    fn is_unsaid(&self) -> bool
+        ensures { result ≡ is_unsaid self.now }
     {
         self.approach.is_none()
             && self.retract.is_none()
@@ -75,6 +85,13 @@ impl Choices {
             && !self.is_approached
             && self.harmless.as_slice().is_empty()
             && self.table.is_none()
+    }
+
+    /// Whether they say nothing of a text that is read in one way.
+    pub fn is_silent(&self) -> bool
+        ensures { result ≡ is_silent self.now }
+    {
+        self.is_unsaid() && self.probes.as_slice().is_empty()
     }
 
     /// Choices that leave everything as the text says it, for a tip that is a point.
@@ -92,6 +109,7 @@ impl Choices {
             tip: 0,
             harmless: Items::new(alloc),
             table: None,
+            probes: Items::new(alloc),
         }
     }
 }

@@ -256,7 +256,7 @@ fn is_back_by(saying: Option<Saying>, form: &Form) -> bool
     }
 }
 
-// The selection of a sensor that was selected before, by the line of that.
+// The selection of a sensor that was selected before, by the line of that; of a probe of a file, by its number.
 fn again(saying: Option<Saying>, form: Form) -> Form
     ensures { result ≡ again saying form }
 {
@@ -264,6 +264,20 @@ fn again(saying: Option<Saying>, form: Form) -> Form
         Some(Saying::Same(first)) => {
             if is_event(Event::Sensor, &form) {
                 numbered(Event::Sensor, i64::from(first))
+            } else {
+                form
+            }
+        }
+        Some(Saying::Probe(number)) => {
+            if is_event(Event::Sensor, &form) {
+                numbered(Event::Probe, i64::from(number))
+            } else {
+                form
+            }
+        }
+        Some(Saying::Unclear) => {
+            if is_event(Event::Sensor, &form) {
+                lost(Event::Sensor)
             } else {
                 form
             }
@@ -370,8 +384,14 @@ pub fn choose(
 {
     let answers = fitting_answers(alloc, choices.answers.as_slice(), lines)?;
     let asked = ask_all(alloc, answers.as_slice(), lines)?;
-    let spoken = sayings_of(alloc, choices.harmless.as_slice(), choices.table, lines)?;
-    let tips = other_tips(alloc, choices.tip, lines)?;
+    let spoken = sayings_of(
+        alloc,
+        choices.probes.as_slice(),
+        choices.harmless.as_slice(),
+        choices.table,
+        lines,
+    )?;
+    let tips = other_tips(alloc, choices.probes.as_slice(), choices.tip, lines)?;
     choose_by(
         alloc,
         choices,

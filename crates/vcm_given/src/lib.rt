@@ -6,6 +6,7 @@ mod choices;
 mod choosing;
 mod fields;
 mod frames;
+mod missing;
 mod spoken;
 mod statements;
 mod texts;
@@ -13,8 +14,9 @@ mod tips;
 mod unused;
 mod values;
 
-pub use choices::{Answer, Choices, GivenFrame, Value};
+pub use choices::{Answer, Choices, GivenFrame, GivenProbe, Value};
 pub use choosing::choose;
+pub use missing::{MissingProbe, missing_probes};
 pub use texts::given_texts;
 pub use tips::{OtherTip, Width, other_tips};
 pub use unused::first_unused;

@@ -5,8 +5,9 @@ ghost use Rattle.std.specs.List.{list_any, list_all};
 ghost use Rattle.vcm_heads.specs.declared.heads.Mark.TheVariants as marks;
 ghost use Rattle.vcm_heads.specs.Heads.{past, behind_of};
 ghost use Rattle.vcm_heads.specs.Rows.{row_in, words_of};
-ghost use Rattle.vcm_given.specs.Spoken.{is_word, goes_by_row, goes_by, is_harmless, is_passive, is_carriage, chooses_first, carriage_in, is_named, chooses_no_other, is_lone, chooses_lone, table_in, is_table, angle_in, turns_alone, is_absolute, is_angle, comes_to, turns_back, lone, lone_in, selected, is_sensor, first_line, first_of, same_as, saying_of, spoken_on, spoken_by, spoken, saying_at};
+ghost use Rattle.vcm_given.specs.Spoken.{is_word, goes_by_row, goes_by, is_harmless, is_passive, is_carriage, chooses_first, carriage_in, is_named, chooses_no_other, is_lone, chooses_lone, table_in, is_table, angle_in, turns_alone, is_absolute, is_angle, comes_to, turns_back, lone, lone_in, selected, is_sensor, first_line, first_of, same_as, no_probes, number_of, has_parameter, is_parameter, probe_said, probe_saying, selection_saying, saying_of, spoken_on, spoken_by, spoken, saying_at};
 
+use crate::choices::GivenProbe;
 use crate::fields::last_of;
 use std::alloc::Global;
 use vcm_heads::{Mark, Row, major_at, past, row_in, row_of_statement, title_at};
@@ -23,6 +24,10 @@ pub enum Saying {
     Back,
     /// It selects the sensor that was first selected on this line.
     Same(u32),
+    /// It selects the probe of a file with this number, or, by 0, one that the file hasn't.
+    Probe(u32),
+    /// It selects a sensor by a name that may be a parameter's.
+    Unclear,
 }
 
 /// What is said of the statement on a line.
@@ -252,8 +257,8 @@ fn lone_in<'a>(fields: Option<Phrase<'a>>) -> Option<(&'a [u8], bool)>
     }
 }
 
-// The one sensor that a statement selects, if it does.
-fn selected<'a>(logical: &'a Logical) -> Option<(&'a [u8], bool)>
+/// The one sensor that a statement selects, if it does.
+pub(crate) fn selected<'a>(logical: &'a Logical) -> Option<(&'a [u8], bool)>
     ensures { option_map (λ r. (r.0.now, r.1)) result ≡ selected logical.now }
 {
     let (_, behind) = major_at(&Phrase::of(logical));
@@ -303,21 +308,90 @@ fn first_of(lines: &[Logical], logical: &Logical) -> Option<u32>
     first_line(name, actual, lines)
 }
 
+/// Whether there are no probes.
+pub(crate) fn no_probes(probes: &[GivenProbe]) -> bool
+    ensures { result ≡ no_probes probes.now }
+{
+    probes.is_empty()
+}
+
+// The number of the probe with this name.
+fn number_of(name: &[u8], probes: &[GivenProbe]) -> u32
+    ensures { result ≡ number_of name.now probes.now }
+{
+    for probe in probes {
+        if is(probe.name.as_slice(), name) {
+            return probe.number;
+        }
+    }
+    0
+}
+
+// Whether a statement begins a macro that has a parameter of this name.
+fn has_parameter(name: &[u8], logical: &Logical) -> bool
+    ensures { result ≡ has_parameter name.now logical.now }
+{
+    let (major, behind) = major_at(&Phrase::of(logical));
+    is(major, b"MACRO") && has_word(name, &behind)
+}
+
+// Whether a text has one.
+fn is_parameter(name: &[u8], lines: &[Logical]) -> bool
+    ensures { result ≡ is_parameter name.now lines.now }
+{
+    lines.iter().any(|logical| has_parameter(name, logical))
+}
+
+// What is said of a selection of this name, by these probes.
+fn probe_said(probes: &[GivenProbe], lines: &[Logical], name: &[u8]) -> Saying
+    ensures { result ≡ probe_said probes.now lines.now name.now }
+{
+    if is_parameter(name, lines) {
+        Saying::Unclear
+    } else {
+        Saying::Probe(number_of(name, probes))
+    }
+}
+
+// The same of a statement.
+fn probe_saying(probes: &[GivenProbe], lines: &[Logical], logical: &Logical) -> Option<Saying>
+    ensures { result ≡ probe_saying probes.now lines.now (selected logical.now) }
+{
+    let (name, _) = selected(logical)?;
+    Some(probe_said(probes, lines, name))
+}
+
+/// What is said of a selection: by the probes of a file, or by the line that selected the same sensor first.
+pub(crate) fn selection_saying(
+    probes: &[GivenProbe],
+    lines: &[Logical],
+    logical: &Logical,
+) -> Option<Saying>
+    ensures { result ≡ selection_saying probes.now lines.now (selected logical.now) }
+{
+    if no_probes(probes) {
+        same_as(first_of(lines, logical))
+    } else {
+        probe_saying(probes, lines, logical)
+    }
+}
+
 // What is said of a statement.
 fn saying_of(
+    probes: &[GivenProbe],
     names: &[Name],
     angle: Option<u64>,
     lines: &[Logical],
     logical: &Logical,
 ) -> Option<Saying>
-    ensures { result ≡ saying_of names.now angle lines.now logical.now }
+    ensures { result ≡ saying_of probes.now names.now angle lines.now logical.now }
 {
     if is_harmless(names, logical) || chooses_lone(lines, logical) {
         Some(Saying::Harmless)
     } else if turns_back(angle, lines, logical) {
         Some(Saying::Back)
     } else {
-        same_as(first_of(lines, logical))
+        selection_saying(probes, lines, logical)
     }
 }
 
@@ -338,32 +412,38 @@ fn add_saying(out: &mut Items<Spoken>, line: u32, saying: Option<Saying>) -> Res
 #[tactic(auto, unfolding(crate::specs::Spoken::spoken_by))]
 fn speak(
     out: &mut Items<Spoken>,
+    probes: &[GivenProbe],
     names: &[Name],
     angle: Option<u64>,
     lines: &[Logical],
     logical: &Logical,
 ) -> Result<(), NoMemory>
-    ensures { OnOk result (out.new ≡ out.old ++ spoken_by names.now angle lines.now logical.now) }
+    ensures { OnOk result (out.new ≡ out.old ++ spoken_by probes.now names.now angle lines.now logical.now) }
 {
-    add_saying(out, logical.line, saying_of(names, angle, lines, logical))
+    add_saying(
+        out,
+        logical.line,
+        saying_of(probes, names, angle, lines, logical),
+    )
 }
 
-/// What is said of a text's statements: with these words as harmless, and a table that stands at this angle at the start, in millionths of a degree.
+/// What is said of a text's statements: by these probes of a file, with these words as harmless, and a table that stands at this angle at the start, in millionths of a degree.
 ///
 /// # Errors
 ///
 /// Out of memory.
 pub(crate) fn sayings_of(
     alloc: Global,
+    probes: &[GivenProbe],
     names: &[Name],
     angle: Option<u64>,
     lines: &[Logical],
 ) -> Result<Items<Spoken>, NoMemory>
-    ensures { IfOk result (λ ss. ss ≡ spoken names.now angle lines.now) }
+    ensures { IfOk result (λ ss. ss ≡ spoken probes.now names.now angle lines.now) }
 {
     let mut out = Items::new(alloc);
     for logical in lines {
-        speak(&mut out, names, angle, lines, logical)?;
+        speak(&mut out, probes, names, angle, lines, logical)?;
     }
     Ok(out)
 }

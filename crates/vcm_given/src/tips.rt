@@ -6,9 +6,11 @@ ghost use Rattle.std.specs.List.{list_any};
 ghost use Rattle.vcm_heads.specs.declared.heads.Mark.TheVariants as marks;
 ghost use Rattle.vcm_heads.specs.Heads.{past, behind_of};
 ghost use Rattle.vcm_heads.specs.Rows.{row_in, words_of};
-ghost use Rattle.vcm_given.specs.Tips.{sensor_in, defines, is_definition, width_in, is_same_width, agreed, width_onto, width_of, other_width, tip_on, selected_on, is_selection, tip_by, other_tips, is_other, is_other_on, is_other_at};
+ghost use Rattle.vcm_given.specs.Tips.{sensor_in, defines, is_definition, width_in, is_same_width, agreed, width_onto, width_of, other_width, tip_on, tip_named, own_tip, tip_beside, selected_on, is_selection, tip_by, other_tips, is_other, is_other_on, is_other_at};
 
+use crate::choices::GivenProbe;
 use crate::fields::last_of;
+use crate::spoken::no_probes;
 use std::alloc::Global;
 use vcm_heads::{Mark, Row, major_at, past, row_of_statement, title_at};
 use vcm_lines::{Logical, Phrase};
@@ -147,14 +149,56 @@ fn other_width(tip: i32, width: Option<Option<u64>>) -> Option<Width>
     }
 }
 
-// The tip that a statement puts on, where it isn't that of the part.
+// Half the width of the tip of the probe with this name, if the file has one.
+fn tip_named(name: &[u8], probes: &[GivenProbe]) -> Option<i32>
+    ensures { result ≡ tip_named name.now probes.now }
+{
+    for probe in probes {
+        if is(probe.name.as_slice(), name) {
+            return Some(probe.tip);
+        }
+    }
+    None
+}
+
+// That of the tip that is put on by this name.
+fn own_tip(probes: &[GivenProbe], tip: i32, name: &[u8]) -> Option<i32>
+    ensures { result ≡ own_tip probes.now tip name.now }
+{
+    if no_probes(probes) {
+        Some(tip)
+    } else {
+        tip_named(name, probes)
+    }
+}
+
+// The width that is defined, on a line that puts on a tip of this half width.
+fn add_beside(
+    out: &mut Items<OtherTip>,
+    line: u32,
+    tip: Option<i32>,
+    width: Option<Option<u64>>,
+) -> Result<(), NoMemory>
+    ensures { OnOk result (out.new ≡ out.old ++ tip_beside line tip width) }
+{
+    let Some(tip) = tip else {
+        return Ok(());
+    };
+    if let Some(width) = other_width(tip, width) {
+        out.push(OtherTip { line, width })?;
+    }
+    Ok(())
+}
+
+// The tip that a statement puts on, where it isn't that of the part, or of its probe.
 fn add_tip(
     out: &mut Items<OtherTip>,
+    probes: &[GivenProbe],
     tip: i32,
     lines: &[Logical],
     logical: &Logical,
 ) -> Result<(), NoMemory>
-    ensures { OnOk result (out.new ≡ out.old ++ tip_by tip lines.now logical.now) }
+    ensures { OnOk result (out.new ≡ out.old ++ tip_by probes.now tip lines.now logical.now) }
 {
     if !matches!(row_of_statement(logical), Row::Sensor) {
         return Ok(());
@@ -162,24 +206,26 @@ fn add_tip(
     let Some((name, _)) = sensor_in(fields_of(logical)) else {
         return Ok(());
     };
-    let line = logical.line;
-    if let Some(width) = other_width(tip, width_of(name, lines)) {
-        out.push(OtherTip { line, width })?;
-    }
-    Ok(())
+    let own = own_tip(probes, tip, name);
+    add_beside(out, logical.line, own, width_of(name, lines))
 }
 
-/// The tips that a text puts on that aren't that of the part, of this half width in micrometres.
+/// The tips that a text puts on that aren't that of the part, of this half width in micrometres, or, where a file has probes, that of their probe.
 ///
 /// # Errors
 ///
 /// Out of memory.
-pub fn other_tips(alloc: Global, tip: i32, lines: &[Logical]) -> Result<Items<OtherTip>, NoMemory>
-    ensures { IfOk result (λ tips. tips ≡ other_tips tip lines.now) }
+pub fn other_tips(
+    alloc: Global,
+    probes: &[GivenProbe],
+    tip: i32,
+    lines: &[Logical],
+) -> Result<Items<OtherTip>, NoMemory>
+    ensures { IfOk result (λ tips. tips ≡ other_tips probes.now tip lines.now) }
 {
     let mut out = Items::new(alloc);
     for logical in lines {
-        add_tip(&mut out, tip, lines, logical)?;
+        add_tip(&mut out, probes, tip, lines, logical)?;
     }
     Ok(out)
 }

@@ -51,7 +51,7 @@ point_way s g p f t =
 six : (a b c d e f g h i s : ℤ) → a ≡ d +ℤ g → b ≡ e +ℤ h → c ≡ f +ℤ i → s ≡ d +ℤ e +ℤ f → a +ℤ b +ℤ c ≡ s +ℤ (g +ℤ h +ℤ i)
 six a b c d e f g h i s p q r t = omega (arith, ints)
 
-point_is : (s : ℕ) (g p : Along → ℤ) (at tip : Place)
+pub point_is : (s : ℕ) (g p : Along → ℤ) (at tip : Place)
     → over_axes (λ i. g i *ℤ way_from s tip p i) ≡ pos s *ℤ over_axes (λ i. g i *ℤ way_between tip at i) +ℤ over_axes (λ i. g i *ℤ way_from s at p i)
 point_is s g p at tip =
     six _ _ _ (pos s *ℤ (g X *ℤ (at.x -ℤ tip.x))) (pos s *ℤ (g Y *ℤ (at.y -ℤ tip.y))) (pos s *ℤ (g Z *ℤ (at.z -ℤ tip.z))) (g X *ℤ way_from s at p X)
@@ -100,7 +100,7 @@ way_low s f t p h = less_low _ (pos s *ℤ f) (pos s *ℤ int_min (pos 0) (t -�
 way_high : (s : ℕ) (f t p : ℤ) → p ≤ℤ (pos s *ℤ int_max f t) → (p -ℤ pos s *ℤ f) ≤ℤ (pos s *ℤ int_max (pos 0) (t -ℤ f))
 way_high s f t p h = less_high _ (pos s *ℤ f) (pos s *ℤ int_max (pos 0) (t -ℤ f)) p (ap (λ z. pos s *ℤ z) (max_from f t) ∙ mul-add (pos s) f (int_max (pos 0) (t -ℤ f))) h
 
-near_number : (b c m : ℤ) (s d : ℕ) → m ≡ pos d → (pos 4 *ℤ (b *ℤ b +ℤ c *ℤ c)) ≤ℤ ((pos s *ℤ m) *ℤ (pos s *ℤ m))
+pub near_number : (b c m : ℤ) (s d : ℕ) → m ≡ pos d → (pos 4 *ℤ (b *ℤ b +ℤ c *ℤ c)) ≤ℤ ((pos s *ℤ m) *ℤ (pos s *ℤ m))
     → 4 * (unsigned_abs b * unsigned_abs b + unsigned_abs c * unsigned_abs c) ≤ (s * d) * (s * d)
 near_number b c m s d e h =
     let k : (pos (4 * (unsigned_abs b * unsigned_abs b + unsigned_abs c * unsigned_abs c))) ≤ℤ pos ((s * d) * (s * d)) = rw (square_is b, square_is c, e) at h in
@@ -152,7 +152,7 @@ width_is : (m z : ℤ) (d : ℕ) → m ≡ pos d → half_width m z ≡ pos (uns
 width_is m z d e =
     ap (λ x. half_up (x *ℤ root_up z)) e ∙ ap (λ x. half_up (pos d *ℤ x)) (root_size z) ∙ (half_holds (d * unsigned_abs (root_up z))).0
 
-under_root : (k j : ℕ) (z : ℤ) → z ≡ pos k -ℤ pos j → k < 2 ^ 128 → k ≤ j + unsigned_abs (root_up z) * unsigned_abs (root_up z)
+pub under_root : (k j : ℕ) (z : ℤ) → z ≡ pos k -ℤ pos j → k < 2 ^ 128 → k ≤ j + unsigned_abs (root_up z) * unsigned_abs (root_up z)
 under_root k j z e fits = by z (unsigned_abs (root_up z) * unsigned_abs (root_up z)) e (root_holds z (small z e fits))
   where
     small : (z : ℤ) → z ≡ pos k -ℤ pos j → k < 2 ^ 128 → z <ℤ pos (2 ^ 128)
@@ -170,7 +170,7 @@ layer p = record { low = p.low; high = p.high }
 
 -- ---- a part seen from the tip: a point of it lies in its range, and between its planes
 
-same_row : (n : ℕ) (i : Along) → rows_give n i i ≡ pos (n * n)
+pub same_row : (n : ℕ) (i : Along) → rows_give n i i ≡ pos (n * n)
 same_row n X = refl
 same_row n Y = refl
 same_row n Z = refl
@@ -400,7 +400,7 @@ in_block b some y Z c z there sides =
     )
 
 -- a number lies between two of the cuts that lead from below it to above it
-between_cuts : (b : ℕ) (v : ℤ) (cut : ℕ → ℤ) → (pos b *ℤ cut 0) ≤ℤ v → (k : ℕ) → 0 < k → v ≤ℤ (pos b *ℤ cut k)
+pub between_cuts : (b : ℕ) (v : ℤ) (cut : ℕ → ℤ) → (pos b *ℤ cut 0) ≤ℤ v → (k : ℕ) → 0 < k → v ≤ℤ (pos b *ℤ cut k)
     → (j : ℕ) × (j < k) × ((pos b *ℤ cut j) ≤ℤ v) × (v ≤ℤ (pos b *ℤ cut (j + 1)))
 between_cuts b v cut low zero some high = absurd (omega arith)
 between_cuts b v cut low (suc zero) some high = (0, omega arith, low, high)
@@ -411,7 +411,7 @@ between_cuts b v cut low (suc (suc k)) some high =
     weaker : (x y : ℤ) → x <ℤ y → x ≤ℤ y
     weaker x y h = omega (arith, ints)
 
-no_part : (n : ℕ) (l : ℤ) → int_div_euclid (pos 0 *ℤ l) (pos n) ≡ pos 0
+pub no_part : (n : ℕ) (l : ℤ) → int_div_euclid (pos 0 *ℤ l) (pos n) ≡ pos 0
 no_part n l = ap (λ z. int_div_euclid z (pos n)) (none l) ∙ ap pos (nothing n)
   where
     none : (l : ℤ) → pos 0 *ℤ l ≡ pos 0
@@ -420,7 +420,7 @@ no_part n l = ap (λ z. int_div_euclid z (pos n)) (none l) ∙ ap pos (nothing n
     nothing : (n : ℕ) → 0 / n ≡ 0
     nothing n = omega arith
 
-all_parts : (n : ℕ) (l : ℤ) → 0 < n → pos 0 ≤ℤ l → int_div_euclid (pos n *ℤ l) (pos n) ≡ l
+pub all_parts : (n : ℕ) (l : ℤ) → 0 < n → pos 0 ≤ℤ l → int_div_euclid (pos n *ℤ l) (pos n) ≡ l
 all_parts n (pos a) some h = ap pos (mul-div_cancel_left a some)
 all_parts n (negsuc a) some h = absurd (omega (arith, ints, h))
 

@@ -21,3 +21,10 @@ pub mod Widths
 pub mod Turns
 pub mod Held
 pub mod Parts
+pub mod Balls
+pub mod Distances
+pub mod Within
+pub mod Swinging
+pub mod Nearness
+pub mod Centres
+pub mod Angles

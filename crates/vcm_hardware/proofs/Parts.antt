@@ -63,7 +63,7 @@ within_unit k =
     (negative_unit (quarter_cosine (unsigned_abs (pos 24 -ℤ k))) (quarter_unit (unsigned_abs (pos 24 -ℤ k))))
     (negative_unit (quarter_cosine (unsigned_abs (k -ℤ pos 24))) (quarter_unit (unsigned_abs (k -ℤ pos 24)))) (quarter_unit (unsigned_abs (pos 48 -ℤ k)))
 
-cosine_unit : (k : ℤ) → IsUnit (cosine k)
+pub cosine_unit : (k : ℤ) → IsUnit (cosine k)
 cosine_unit k = within_unit (int_rem_euclid k (pos 48))
 
 floor_unit : (z : ℤ) → unsigned_abs z ≤ 100000000000000 → unsigned_abs (floor_one z) ≤ 10000000

@@ -38,7 +38,7 @@ swap a b c = sym (mul-assoc a b c) ∙ ap (λ z. z *ℤ c) (*ℤ_comm a b) ∙ m
 pub scaled_le : (m : ℕ) (x y : ℤ) → x ≤ℤ y → (pos m *ℤ x) ≤ℤ (pos m *ℤ y)
 scaled_le m x y le = let h : up x + down y ≤ up y + down x = omega (arith, ints) in omega (arith, ints, mul-le-mul_left m h)
 
-turned_le : (m : ℕ) (x y : ℤ) → x ≤ℤ y → (negsuc m *ℤ y) ≤ℤ (negsuc m *ℤ x)
+pub turned_le : (m : ℕ) (x y : ℤ) → x ≤ℤ y → (negsuc m *ℤ y) ≤ℤ (negsuc m *ℤ x)
 turned_le m x y le = let h : up x + down y ≤ up y + down x = omega (arith, ints) in omega (arith, ints, mul-le-mul_left (m + 1) h)
 
 pub trans : (a b c : ℤ) → a ≤ℤ b → b ≤ℤ c → a ≤ℤ c

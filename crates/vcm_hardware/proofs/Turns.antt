@@ -22,7 +22,7 @@ use Rattle.vcm_hardware.proofs.Products.{mul-sub, sub-mul, mul-zero, mul-neg, sw
 sum3 : {a b c d e f : ℤ} → a ≡ d → b ≡ e → c ≡ f → a +ℤ b +ℤ c ≡ d +ℤ e +ℤ f
 sum3 p q r = rw (p, q, r) refl
 
-turn_over : (p q : Along → ℤ) → over_axes (λ k. p k *ℤ q k) ≡ over_axes (λ k. q k *ℤ p k)
+pub turn_over : (p q : Along → ℤ) → over_axes (λ k. p k *ℤ q k) ≡ over_axes (λ k. q k *ℤ p k)
 turn_over p q = sum3 (*ℤ_comm (p X) (q X)) (*ℤ_comm (p Y) (q Y)) (*ℤ_comm (p Z) (q Z))
 
 -- a multiple of a direction
@@ -45,11 +45,11 @@ lean_is e l u v w =
     (mul-add_three e (u X *ℤ w X) (u Y *ℤ w Y) (u Z *ℤ w Z)) (mul-add_three l (v X *ℤ w X) (v Y *ℤ w Y) (v Z *ℤ w Z))
 
 -- the squares of a direction, as natural numbers
-squares_sum : (g : Along → ℤ) → over_axes (λ k. g k *ℤ g k)
+pub squares_sum : (g : Along → ℤ) → over_axes (λ k. g k *ℤ g k)
     ≡ pos (unsigned_abs (g X) * unsigned_abs (g X) + unsigned_abs (g Y) * unsigned_abs (g Y) + unsigned_abs (g Z) * unsigned_abs (g Z))
 squares_sum g = rw (square_is (g X), square_is (g Y), square_is (g Z)) refl
 
-whole_number : (m k : ℕ) (z : ℤ) → z ≡ pos m → z ≡ pos k → m ≡ k
+pub whole_number : (m k : ℕ) (z : ℤ) → z ≡ pos m → z ≡ pos k → m ≡ k
 whole_number m k z p q = omega (arith, ints)
 
 -- a row of a turn, in ten-millionths, has the length of 1

@@ -17,7 +17,7 @@ use Rattle.vcm_num.proofs.Ring.{mul-add, mul-assoc}
 -- ---- the width
 
 -- twice a product is at most the sum of the squares
-twice_product : (x y : ℕ) → 2 * (x * y) ≤ x * x + y * y
+pub twice_product : (x y : ℕ) → 2 * (x * y) ≤ x * x + y * y
 twice_product zero y = omega arith
 twice_product (suc x) zero = omega arith
 twice_product (suc x) (suc y) = omega (arith, twice_product x y)
@@ -46,7 +46,7 @@ rounded_holds n r is = by (r * r == n) refl
     by true e = let same : r * r ≡ n = (Decides-eqb (r * r) n).0 e in rw e (omega (arith, same))
     by false e = rw e (omega (arith, is.above))
 
-root_is : (n : ℕ) → n < 2 ^ 128 → IsRoot n (root_down n)
+pub root_is : (n : ℕ) → n < 2 ^ 128 → IsRoot n (root_down n)
 unfolding root_down
 root_is n fits = root_by_is 64 0 n (omega arith) (grind arith)
 
@@ -115,13 +115,13 @@ module _ (s : ℕ) (f t g d q : ℤ) (e : t ≡ f +ℤ g *ℤ d) (low : (pos s *
 
 -- ---- and what stands out besides
 
-ends_low : (x a b c d : ℤ) → x ≡ a -ℤ b → a ≤ℤ c → neg_ℤ b ≤ℤ d → x ≤ℤ (c +ℤ d)
+pub ends_low : (x a b c d : ℤ) → x ≡ a -ℤ b → a ≤ℤ c → neg_ℤ b ≤ℤ d → x ≤ℤ (c +ℤ d)
 ends_low x a b c d e p q = omega (arith, ints)
 
-ends_high : (x a b c d : ℤ) → x ≡ a +ℤ b → c ≤ℤ a → d ≤ℤ b → (c +ℤ d) ≤ℤ x
+pub ends_high : (x a b c d : ℤ) → x ≡ a +ℤ b → c ≤ℤ a → d ≤ℤ b → (c +ℤ d) ≤ℤ x
 ends_high x a b c d e p q = omega (arith, ints)
 
-halve : (j w u k : ℕ) → 2 * u ≤ k → k ≤ j * (2 * w) → u ≤ j * w
+pub halve : (j w u k : ℕ) → 2 * u ≤ k → k ≤ j * (2 * w) → u ≤ j * w
 halve j w u k p q = omega (arith, p, q)
 
 two_near : (x y : ℤ) (k : ℕ) → unsigned_abs x + unsigned_abs y ≤ k → (neg_ℤ (pos k) ≤ℤ (x +ℤ y)) × ((x +ℤ y) ≤ℤ pos k)

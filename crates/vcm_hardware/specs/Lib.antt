@@ -11,4 +11,5 @@ pub mod Pieces
 pub mod Told
 pub mod ProbeFile
 pub mod Holding
+pub mod SwingHolding
 pub mod inner

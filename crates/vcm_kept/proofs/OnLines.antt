@@ -67,7 +67,7 @@ use Rattle.vcm_forms.specs.declared.statement.Form.{Form}
 use Rattle.vcm_forms.specs.declared.statement.Form.TheVariants as form
 use Rattle.vcm_kept.specs.Exactly.{want_of}
 use Rattle.vcm_kept.specs.Places.{has_place, motion_asks, point_asks, approach_asks, aimed, within, asks_place, asks_point, keeps_here, keeps_known, keeps, tracks, loses_track, goes_to, moves_known, moves, goes_home, homes, reaches_target, step_asks, step_place, steps_known, steps_to, steps_by, before, halt_asks, left_behind, approaches_known, approaches_by, approaches, halts_known, halts_by, halts, slants, keeps_setting}
-use Rattle.vcm_kept.specs.Guarding.{Reached, with_variable, declares_variable, declares_one, declares_all, assigned_where, assigned_to, assigned_by, assigned, is_nothing, turns_machine, turns_state, changes_sensor, selects, unselected, is_selected, selects_number, selects_by, wants_points, recalls_machine, turns_polar, happens, assigns_or, is_nominal, point, point_goes, own_point, direction_asks, touches_declared, touches_itself, touches_at, touches, halts_along, touches_where, touches_or, measures, keeps_point, measured_index, counts_points, leaves_points, measured, nominal_where, direction_of, sets_direction, keeps_direction, features_at, declares_direction, declares_feature, feature_gone, features_in, features, carried_setting, setting_where, configures, declares_frame, made_where, found_in, has_shifts, asks_shifts, shifts_at, shifts_in, shifts, origins_at, origins_in, frames_by, queries, adds_number, begins_block, turns_at, turns_in, recalled_where, recalls_at, obtains_here, obtains_at, obtains_by, reports_at, closes, unknown_asks, tests, chooses, asks_increment, asks_rounds, repeats, loop_ends, ending, spots_by, features_or, direction_in, approaches_feature, slants_or, shifts_or, is_aimed, makes_frame, late_shift, late_place, late_touch, late_end, late_value, late_report, lates}
+use Rattle.vcm_kept.specs.Guarding.{Reached, with_variable, declares_variable, declares_one, declares_all, assigned_where, assigned_to, assigned_by, assigned, is_nothing, turns_machine, turns_state, changes_sensor, selects, unselected, is_selected, selects_number, selects_by, misses_probe, takes_probe, wants_points, recalls_machine, turns_polar, happens, assigns_or, is_nominal, point, point_goes, own_point, direction_asks, touches_declared, touches_itself, touches_at, touches, halts_along, touches_where, touches_or, measures, keeps_point, measured_index, counts_points, leaves_points, measured, nominal_where, direction_of, sets_direction, keeps_direction, features_at, declares_direction, declares_feature, feature_gone, features_in, features, carried_setting, setting_where, configures, declares_frame, made_where, found_in, has_shifts, asks_shifts, shifts_at, shifts_in, shifts, origins_at, origins_in, frames_by, queries, adds_number, begins_block, turns_at, turns_in, recalled_where, recalls_at, obtains_here, obtains_at, obtains_by, reports_at, closes, unknown_asks, tests, chooses, asks_increment, asks_rounds, repeats, loop_ends, ending, spots_by, features_or, direction_in, approaches_feature, slants_or, shifts_or, is_aimed, makes_frame, late_shift, late_place, late_touch, late_end, late_value, late_report, lates}
 
 -- ---- lists
 
@@ -421,6 +421,11 @@ module _ (test : ℕ → Bool) (line : ℕ) (h : test line ≡ true) where
   selects_by_on : (e : ℕ) (n : Option Term) → are_on test (selects_by line e n) ≡ true
   selects_by_on e n = either test (is_selected e n) _ _ (selects_number_on n) unselected_on
 
+  takes_probe_on : (steps missing : Bool) (n : Source) → are_on test (takes_probe steps line missing n) ≡ true
+  unfolding misses_probe
+  takes_probe_on steps true n = rw h
+  takes_probe_on steps false n = joined test _ _ (loses_track_on steps) (rw h)
+
   wants_points_on : (vs : List Variable) (value : Source) → are_on test (wants_points line vs value) ≡ true
   unfolding wants_points
   wants_points_on vs value = rw h (either test (has_form vs wants.Int value) _ _ (rw h (joined test _ _ (asks_all_on vs value) (rw h))) (rw h))
@@ -545,6 +550,7 @@ module _ (test : ℕ → Bool) (line : ℕ) (h : test line ≡ true) where
   happens_on text around e vs events.Machine v = recalls_machine_on text.machine text.datums
   happens_on text around e vs events.Points v = wants_points_on vs v
   happens_on text around e vs events.Sensor v = selects_by_on e (leaf_in v)
+  happens_on text around e vs events.Probe v = takes_probe_on text.steps (is_nothing (leaf_in v)) v
   happens_on text around e vs events.Angle v = turns_polar_on text.polar carried.Angle (is_nothing (leaf_in v))
   happens_on text around e vs events.Plane v = turns_polar_on text.polar carried.Plane (is_nothing (leaf_in v))
   happens_on text around e vs events.PolarPoint v = rw h (joined test _ _ untried_point_on (rw h))

@@ -107,6 +107,7 @@ event_effects events.Unit = may_convert
 event_effects events.OwnPoints = may_switch
 event_effects events.Place = may_select
 event_effects events.Sensor = may_put_on
+event_effects events.Probe = may_put_on
 event_effects events.Width = may_widen
 event_effects events.Approach = may_set
 event_effects events.Search = may_set

@@ -57,7 +57,7 @@ use Rattle.vcm_kept.specs.Late.{Made, made_by, is_late, is_late_variable, late_f
 use Rattle.vcm_kept.specs.Named.{drops_frames, drops_frame, drops_feature, remakes_feature, stores_frame, declares_stored, keeps_stored}
 use Rattle.vcm_events.specs.Datums.{are_origins}
 use Rattle.vcm_kept.specs.Effects.{no_effects, either_effects, effects_of, set_by, other_tip, lose_block}
-use Rattle.vcm_remarks.specs.declared.remark.Remark.TheVariants.{NotReported, AnotherTip}
+use Rattle.vcm_remarks.specs.declared.remark.Remark.TheVariants.{NotReported, AnotherTip, NotInFile}
 use Rattle.vcm_kept.specs.Places.{has_place, asks_place, motion_asks, length_asks, point_asks, approach_asks, asks_point, moves, homes, keeps, loses_track, reaches_target, steps_by, halt_asks, approaches, halts, slants, keeps_setting, declares_kept, declares_slanted}
 use Rattle.vcm_kept.specs.declared.reached.OpenBlock.{OpenBlock}
 use Rattle.vcm_templates.specs.declared.carried.Carried.{Carried}
@@ -208,6 +208,18 @@ selects_number line (Some n) = selects line (pair (Compare NotEqual) (carried_te
 abbrev pub selects_by : ℕ → ℕ → Option Term → List Guarded
 selects_by line e n = if is_selected e n then selects_number line n else unselected line
 
+-- a probe that the file of probes hasn't: it isn't known where the tip stands, nor which probe is on
+unfoldable pub misses_probe : ℕ → List Guarded
+misses_probe line =
+    remarks line 0 (form.Assignment (carried_target carried.Place) (Plain (number (pos 0)))) NotInFile
+    ∷ set line carried.Sensor (Plain (number UNKNOWN_SENSOR)) ∷ []
+
+-- the probe of a file that has this number, or none of the file's: the pivot stays, so that a run that turns the head knows where the tip stands then; but it is
+-- another place, of which no coordinates are carried
+abbrev pub takes_probe : (steps : Bool) → ℕ → (missing : Bool) → Source → List Guarded
+takes_probe steps line true n = misses_probe line
+takes_probe steps line false n = loses_track steps line ++ set line carried.Sensor n ∷ []
+
 -- how many points are wanted: a whole number that is known, else none, which no measurement has
 unfoldable pub wants_points : ℕ → List Variable → Source → List Guarded
 wants_points line vs value =
@@ -270,6 +282,7 @@ happens text around line e vs events.Saving v = set line carried.Saving (Plain (
 happens text around line e vs events.Machine v = recalls_machine text.machine text.datums line
 happens text around line e vs events.Points v = wants_points line vs v
 happens text around line e vs events.Sensor v = selects_by line e (leaf_in v)
+happens text around line e vs events.Probe v = takes_probe text.steps line (is_nothing (leaf_in v)) v
 happens text around line e vs events.Angle v = turns_polar text.polar line carried.Angle (is_nothing (leaf_in v))
 happens text around line e vs events.Plane v = turns_polar text.polar line carried.Plane (is_nothing (leaf_in v))
 happens text around line e vs events.Polar v = stands line 0 (form.Test polar_asks) ∷ []

@@ -27,6 +27,7 @@ use Rattle.vcm_events.specs.Spots.{spotted, slanted}
 use Rattle.vcm_events.specs.Datums.{happens_to, bound, origin_on, origin_length}
 use Rattle.vcm_templates.specs.declared.guarded.Guarded.{Guarded}
 use Rattle.vcm_templates.specs.declared.carried.Carried.TheVariants as carried
+use Rattle.vcm_templates.specs.declared.carried.TheConstants.{UNKNOWN_SENSOR}
 use Rattle.vcm_templates.specs.declared.carried.Item.TheVariants as items
 use Rattle.vcm_templates.specs.declared.lengths.Kept.TheVariants as kept
 use Rattle.vcm_templates.specs.declared.lengths.Length.TheVariants as lengths
@@ -37,14 +38,14 @@ use Rattle.vcm_templates.specs.Exact.{folded}
 use Rattle.vcm_kept.specs.declared.text.Text.{Text}
 use Rattle.vcm_kept.specs.Effects.{no_effects, other_tip}
 use Rattle.vcm_kept.specs.Named.{keeps_stored}
-use Rattle.vcm_remarks.specs.declared.remark.Remark.TheVariants.{AnotherTip, Approached}
+use Rattle.vcm_remarks.specs.declared.remark.Remark.TheVariants.{AnotherTip, Approached, NotInFile}
 use Rattle.vcm_templates.specs.declared.carried.TheConstants.{FEATURES_STEP}
 use Rattle.vcm_kept.specs.Places.{asks_place, motion_asks, length_asks, point_asks, asks_point, halt_asks, left_behind, halts_known, halts, keeps_here, keeps_known, goes_to, moves_known, home_asks, goes_home, forgets}
 use Rattle.vcm_kept.specs.Exactly.{exact_form}
 use Rattle.vcm_kept.specs.Choices.{chosen_by, opens_case, adds_value, begins_case}
 use Rattle.vcm_kept.specs.Datums.{origin_asks, goes_along, asks_origin, keeps_origin, origin_lost, frame_asks}
 use Rattle.vcm_kept.specs.Late.{Made}
-use Rattle.vcm_kept.specs.Guarding.{Reached, lates, reaches_form, begun, block, text_of, guards, know_variable, lose_variable, assigned_where, selects, unselected, point_goes, own_point, direction_asks, touches_declared, touches_itself, touches, touches_where, direction_of, features_at, nominal_where, setting_where, made_where, recalled_where, machine_name, recalls_machine, unreported, is_measured, obtains_here, measures, closes, unknown_asks, asks_rounds}
+use Rattle.vcm_kept.specs.Guarding.{Reached, lates, reaches_form, begun, block, text_of, guards, know_variable, lose_variable, assigned_where, selects, unselected, misses_probe, point_goes, own_point, direction_asks, touches_declared, touches_itself, touches, touches_where, direction_of, features_at, nominal_where, setting_where, made_where, recalled_where, machine_name, recalls_machine, unreported, is_measured, obtains_here, measures, closes, unknown_asks, asks_rounds}
 
 -- ---- what stands above
 
@@ -376,6 +377,19 @@ sensor = refl
 -- a sensor that isn't known
 pub sensor_unknown : puts (lost events.Sensor) ≡ unselected 9
 sensor_unknown = refl
+
+-- a probe of a file, by its number; in a text with steps from the probe's place too; and one that the file hasn't
+pub probe : puts (event_form events.Probe (pos 2)) ≡ set 9 carried.Sensor (whole 2) ∷ []
+probe = refl
+
+pub probe_within_steps : guards (record bare { steps = true }) above 9 0 (event_form events.Probe (pos 2))
+    ≡ set 9 carried.ProbeFrame (whole 0) ∷ set 9 carried.Sensor (whole 2) ∷ []
+probe_within_steps = refl
+
+pub probe_missing : puts (lost events.Probe)
+    ≡ remarks 9 0 (form.Assignment (carried_target carried.Place) (whole 0)) NotInFile ∷ set 9 carried.Sensor (Plain (number UNKNOWN_SENSOR)) ∷ []
+unfolding misses_probe
+probe_missing = refl
 
 -- a setting
 pub setting : puts (form.Configure Approach (whole 2))

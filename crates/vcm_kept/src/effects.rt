@@ -290,7 +290,7 @@ impl Effects {
             Event::Scanning => Effects::scan(),
             Event::Unit => Effects::conversion(),
             Event::Place => Effects::selection(),
-            Event::Sensor => Effects::sensor(),
+            Event::Sensor | Event::Probe => Effects::sensor(),
             Event::Width => Effects::widening(),
             Event::Approach | Event::Search | Event::Retract => Effects::setting(),
             Event::Clearance | Event::Compensation | Event::Qualification => Effects::setting(),

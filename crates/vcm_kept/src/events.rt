@@ -7,13 +7,13 @@ ghost use Rattle.vcm_templates.specs.Expressions.{number};
 ghost use Rattle.vcm_templates.specs.declared.carried.Carried.TheVariants as carried;
 ghost use Rattle.vcm_forms.specs.declared.statement.Form.TheVariants as form;
 ghost use Rattle.vcm_templates.specs.Templates.{stands, elsewhere, ends, set, untried, untried_point, lose_all};
-ghost use Rattle.vcm_kept.specs.Guarding.{is_nothing, turns_machine, turns_state, changes_sensor, selects, unselected, selects_number, selects_by, wants_points, machine_name, recalls_machine, polar_asks, turns_polar, happens, assigns_or};
+ghost use Rattle.vcm_kept.specs.Guarding.{is_nothing, turns_machine, turns_state, changes_sensor, selects, unselected, selects_number, selects_by, misses_probe, takes_probe, wants_points, machine_name, recalls_machine, polar_asks, turns_polar, happens, assigns_or};
 
 use crate::choices::{add_value, begin_block};
 use crate::datums::{begin_origins, straighten};
 use crate::effects::tell_tip;
 use crate::named::drop_frames;
-use crate::places::go_to_target;
+use crate::places::{go_to_target, lose_track};
 use crate::text::Text;
 use crate::values::leave_out;
 use crate::variables::assign;
@@ -153,6 +153,27 @@ fn select_by(
     } else {
         change_sensor(alloc, out, line, Expr::leaf(number(UNKNOWN_SENSOR)))
     }
+}
+
+// A probe that the file of probes hasn't.
+#[tactic(auto, unfolding(crate::specs::Guarding::misses_probe))]
+fn miss_probe(out: &mut Vec<Guarded>, line: u32) -> Result<(), NoMemory>
+    ensures { OnOk result (out.new.items ≡ out.old.items ++ misses_probe line) }
+{
+    let stands = Form::Assignment(Carried::Place.target(), Expr::leaf(number(0)));
+    remark(out, line, 0, stands, Remark::NotInFile)?;
+    set_number(out, line, Carried::Sensor, UNKNOWN_SENSOR)
+}
+
+// The probe of a file that has this number, or none of the file's.
+fn take_probe(out: &mut Vec<Guarded>, steps: bool, line: u32, value: Expr) -> Result<(), NoMemory>
+    ensures { OnOk result (out.new.items ≡ out.old.items ++ takes_probe steps line (is_nothing (leaf_in value)) value) }
+{
+    if is_nothing(&value) {
+        return miss_probe(out, line);
+    }
+    lose_track(out, steps, line)?;
+    set(out, line, Carried::Sensor, value)
 }
 
 // Where it isn't known how many points are wanted, none are, which no measurement has.
@@ -316,6 +337,7 @@ fn happen(
         Event::Machine => recall_machine(alloc, out, line, text.machine, text.datums),
         Event::Points => want_points(alloc, out, line, names, value),
         Event::Sensor => select_by(alloc, out, line, expansion, v),
+        Event::Probe => take_probe(out, text.steps, line, value),
         Event::Angle => turn_polar(out, line, text.polar, Carried::Angle, v),
         Event::Plane => turn_polar(out, line, text.polar, Carried::Plane, v),
         Event::Polar => begin_polar(alloc, out, line),

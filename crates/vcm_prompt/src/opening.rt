@@ -59,13 +59,16 @@ pub fn debug_by_hand<R: Read, W: Write, E: Prompts>(
         Ok(given) => given,
         Err(fault) => return Err(session_fault(fault)),
     };
-    let text = match &given.text {
-        Some(text) => Some(text.as_slice()),
-        None => None,
+    let text: &[u8] = match &given.text {
+        Some(text) => text.as_slice(),
+        None => b"",
     };
     let source = Source {
         text,
+        has_text: given.text.is_some(),
         is_whole: false,
+        given: &given,
+        part,
     };
     let image = given.image.as_slice();
     match talk_of(alloc, part, image, source, reader, replies, Some(prompts)) {
@@ -92,8 +95,11 @@ pub fn debug_whole<R: Read, W: Write, E: Prompts>(
     prompts: Option<&E>,
 ) -> Result<(), DebugFault> {
     let source = Source {
-        text: Some(text),
+        text,
+        has_text: true,
         is_whole: true,
+        given,
+        part,
     };
     match talk_of(alloc, part, &given.image, source, reader, replies, prompts) {
         Ok(()) => Ok(()),

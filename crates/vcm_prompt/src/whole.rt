@@ -2,7 +2,8 @@
 
 ghost use Rattle.std.specs.Prelude.{◌<◌, ◌^◌};
 
-use crate::answering::{MOST_STEPS, exchanged};
+use crate::answering::{MOST_STEPS, exchanged, write_stands};
+use crate::talking::Prompts;
 use crate::words::{cut_word, joined};
 use std::alloc::Global;
 use std::io::Write;
@@ -77,18 +78,18 @@ fn write_known<P: Part, W: Write>(
 }
 
 // Steps to another source line, so many times, and writes where the session stands.
-fn write_over<P: Part, W: Write>(
+fn write_over<P: Part, W: Write, E: Prompts>(
     alloc: Global,
     session: &mut Session<'_, P>,
     lines: u32,
     writer: &mut W,
+    prompts: &E,
 ) -> Result<Option<Reply>, WriteFault>
     requires { session.old.count < 2 ^ 63 }
 {
     match over(alloc, session, lines) {
         Ok(()) => {
-            let reply = Reply::Stands(session.standing());
-            session.write_reply(&reply, writer)?;
+            let reply = write_stands(session, writer, prompts)?;
             Ok(Some(reply))
         }
         Err(_) => {
@@ -99,16 +100,17 @@ fn write_over<P: Part, W: Write>(
 }
 
 // Answers what is asked for beside the debugger's words, and gives the reply that says where the session stands, if there is one.
-fn answer_asked<P: Part, W: Write>(
+fn answer_asked<P: Part, W: Write, E: Prompts>(
     alloc: Global,
     session: &mut Session<'_, P>,
     asked: Asked,
     writer: &mut W,
+    prompts: &E,
 ) -> Result<Option<Reply>, WriteFault>
     requires { session.old.count < 2 ^ 63 }
 {
     match asked {
-        Asked::Over(lines) => write_over(alloc, session, lines, writer),
+        Asked::Over(lines) => write_over(alloc, session, lines, writer, prompts),
         Asked::Known => {
             write_known(alloc, session, writer)?;
             Ok(None)
@@ -121,36 +123,38 @@ fn answer_asked<P: Part, W: Write>(
 }
 
 // Answers a line that isn't one of the debugger's, or else as the debugger does.
-fn answer_or<P: Part, W: Write>(
+fn answer_or<P: Part, W: Write, E: Prompts>(
     alloc: Global,
     session: &mut Session<'_, P>,
     asked: Option<Asked>,
     line: &[u8],
     writer: &mut W,
+    prompts: &E,
 ) -> Result<Option<Reply>, WriteFault>
     requires { session.old.count < 2 ^ 63 }
 {
     match asked {
-        Some(asked) => answer_asked(alloc, session, asked, writer),
+        Some(asked) => answer_asked(alloc, session, asked, writer, prompts),
         None => {
-            let told = exchanged(alloc, session, line, writer)?;
+            let told = exchanged(alloc, session, line, writer, prompts)?;
             Ok(told.ok())
         }
     }
 }
 
 /// Answers a line of a session on a producer's text, and gives the reply of the debugger, if it has one.
-pub(crate) fn exchanged_whole<P: Part, W: Write>(
+pub(crate) fn exchanged_whole<P: Part, W: Write, E: Prompts>(
     alloc: Global,
     session: &mut Session<'_, P>,
     line: &[u8],
     writer: &mut W,
+    prompts: &E,
 ) -> Result<Option<Reply>, WriteFault> {
     if session.standing().steps >= MOST_STEPS {
         return Ok(None);
     }
     match asked_of(alloc, line) {
-        Ok(asked) => answer_or(alloc, session, asked, line, writer),
+        Ok(asked) => answer_or(alloc, session, asked, line, writer, prompts),
         Err(_) => {
             write_all(writer, b"no memory\n")?;
             Ok(None)

@@ -16,6 +16,8 @@ pub(crate) enum Own {
     Breakpoints,
     /// `pos`: where the probe is.
     Position,
+    /// `why`: why the run stops.
+    Why,
 }
 
 // The words of the front.
@@ -27,6 +29,7 @@ const OWN_WORDS: &[(&[u8], Own)] = &[
     (b"cl", Own::ClearAt),
     (b"bs", Own::Breakpoints),
     (b"pos", Own::Position),
+    (b"why", Own::Why),
 ];
 
 /// A word of the debugger that has short ones.
@@ -101,14 +104,22 @@ q           quit
 An empty line repeats the last command.
 ";
 
+/// What it prints besides of a program, or of an image.
+pub(crate) const HELP_WHY: &[u8] =
+    b"why         why the run stops: its line, its calls and loops, and where the way is free
+";
+
 /// What it prints besides of a producer's text.
 pub(crate) const HELP_WHOLE: &[u8] =
     b"ov [N]      over: to another source line, N times; known: what is known there
 ";
 
-/// What the front answers by itself to a word.
-pub(crate) fn own_word(word: &[u8]) -> Option<Own> {
-    look_up(OWN_WORDS, word)
+/// What the front answers by itself to a word. On a producer's text `why` is none: that of the program which it is put as would tell other lines.
+pub(crate) fn own_word(word: &[u8], is_whole: bool) -> Option<Own> {
+    match look_up(OWN_WORDS, word) {
+        Some(Own::Why) if is_whole => None,
+        own => own,
+    }
 }
 
 // How many blanks are in front.

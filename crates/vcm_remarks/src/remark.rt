@@ -34,6 +34,8 @@ pub enum Remark {
     NotReported,
     /// Another sensor than the one before is selected here: what comes after it is tried with the tip of the part all the same.
     AnotherTip,
+    /// A probe is selected here that the file of probes hasn't: none of the file's is on after it.
+    NotInFile,
     /// From here on this isn't known.
     Loses(Cause),
     /// Nothing is tried from here on: the run goes to its end.

@@ -1,5 +1,5 @@
 -- What a run with several probes came to.
-use Rattle.std.specs.Prelude.{◌≡◌, ℕ, List, Some, None}
+use Rattle.std.specs.Prelude.{◌≡◌, ◌≤◌, ℕ, List, length, Some, None}
 use Rattle.vcm_spec.specs.Workpiece.{Workpiece}
 use Rattle.vcm_code.specs.declared.code.Code.{Code}
 use Rattle.vcm_probe_set.specs.Parts.{why_unfit}
@@ -29,3 +29,9 @@ abbrev pub IsNotDone : Workpiece → Probes → Code → SetFault → Type 0
 IsNotDone part set c NoMemory = Unit {0}
 IsNotDone part set c (Unfit u) = why_unfit part set.probes ≡ Some u
 IsNotDone part set c NoVariable = (why_unfit part set.probes ≡ None) × (chooser set.variable c.tables.variables ≡ None)
+
+-- why none was done with the variable of this place: memory was refused; or the probes can't be tried beside the workpiece; or they can, and the code has no such place
+abbrev pub IsNotDoneAt : Workpiece → Probes → (variable : ℕ) → Code → SetFault → Type 0
+IsNotDoneAt part set v c NoMemory = Unit {0}
+IsNotDoneAt part set v c (Unfit u) = why_unfit part set.probes ≡ Some u
+IsNotDoneAt part set v c NoVariable = (why_unfit part set.probes ≡ None) × (length c.tables.variables ≤ v)

@@ -3,7 +3,7 @@
 ghost use Rattle.std.specs.Prelude.{◌≡◌, ◌<◌, length, map, Some, None, IfOk, IfErr, IfSome};
 ghost use Rattle.vcm_turning.specs.Choosing.{chooser, tipped};
 ghost use Rattle.vcm_turning.specs.Machine.{HasTurningLimits};
-ghost use Rattle.vcm_set_clearance.specs.Report.{IsSetRun, IsDone, IsNotDone};
+ghost use Rattle.vcm_set_clearance.specs.Report.{IsSetRun, IsDone, IsNotDone, IsNotDoneAt};
 
 use crate::gathering::{SetRun, run_with_probes};
 use std::alloc::Global;
@@ -148,5 +148,31 @@ pub fn run_set(
             Ok(run) => Ok(run),
             Err(_) => Err(SetFault::NoMemory),
         },
+    }
+}
+
+/// The same where the probe that is on at a motion is the one whose number the variable of this place has.
+///
+/// Errors: `Unfit` where the probes can't be tried beside the workpiece; else `NoVariable` where the code has no variable at this place; `NoMemory` for want of memory.
+pub fn run_set_at(
+    alloc: Global,
+    loaded: &Loaded<'_>,
+    set: &ProbeSet,
+    part: &PartData,
+    variable: usize,
+    steps: u64,
+) -> Result<SetRun, SetFault>
+    ensures done { IfOk result (IsSetRun part.now set.now.probes variable loaded.now steps) }
+    ensures fault { IfErr result (IsNotDoneAt part.now set.now variable loaded.now) }
+{
+    if let Some(unfit) = why_unfit(part, set) {
+        return Err(SetFault::Unfit(unfit));
+    }
+    if variable >= loaded.variable_count() {
+        return Err(SetFault::NoVariable);
+    }
+    match run_by(alloc, loaded, set, part, variable, steps) {
+        Ok(run) => Ok(run),
+        Err(_) => Err(SetFault::NoMemory),
     }
 }

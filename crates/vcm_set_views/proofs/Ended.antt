@@ -1,5 +1,5 @@
 -- A run for at most n steps ends in one way.
-use Rattle.std.proofs.Common.{◌≡◌, ℕ, zero, suc, ◌+◌, ◌-◌, ◌<◌, ◌≤◌, Bool, true, false, List, [], ◌∷◌, ◌++◌, length, slice_get, Option, Some, None, refl, sym, ap, subst, ◌∙◌, arith, length-append}
+use Rattle.std.proofs.Common.{◌≡◌, ℕ, zero, suc, ◌+◌, ◌-◌, ◌<◌, ◌≤◌, Bool, true, false, List, [], ◌∷◌, length, slice_get, Option, Some, None, refl, subst, arith, length-append}
 use Rattle.vcm_spec.specs.declared.stop.StopPlace.{StopPlace}
 use Rattle.vcm_spec.specs.Workpiece.{Workpiece}
 use Rattle.vcm_code.specs.Code.{CodeStatement}
@@ -11,10 +11,10 @@ use Rattle.vcm_turning.specs.declared.ended.NoProbe.{NoProbe}
 use Rattle.vcm_turning.specs.declared.ended.Ended.{Ended}
 use Rattle.vcm_turning.specs.declared.ended.Ended.TheVariants as end
 use Rattle.vcm_turning.specs.Machine.{TurningEnded}
-use Rattle.vcm_turning.specs.Turning.{Turned, turned, is_lost, put_on, put_behind, stepped, taken, left, by_loss, turn_at, unless_ended, turn_step, turned_after}
-use Rattle.vcm_turning.specs.Steps.{TurnedStep, step_between, steps_at, steps_from, turned_steps}
+use Rattle.vcm_turning.specs.Turning.{Turned, is_lost, put_on, put_behind, stepped, taken, left, by_loss, turn_at, unless_ended, turn_step, turned_after}
+use Rattle.vcm_turning.specs.Steps.{step_between, steps_at, steps_from, turned_steps}
 use Rattle.vcm_set_views.specs.declared.ends.SetEnd.{SetEnd}
-use Rattle.vcm_set_views.specs.Fit.{Fit, steps_of, behind}
+use Rattle.vcm_set_views.specs.Fit.{Fit}
 use Rattle.vcm_set_views.specs.Ends.{HasEnded}
 
 module _ (part : Workpiece) (ps : List Probe) (v : ℕ) (c : Code) where

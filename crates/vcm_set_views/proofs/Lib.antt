@@ -1,3 +1,5 @@
+pub mod Opened
 pub mod Chaining
 pub mod Ended
 pub mod Told
+mod Found

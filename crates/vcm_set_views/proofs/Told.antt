@@ -1,7 +1,6 @@
 -- What is told of a run is told of the machine at its end.
 use Rattle.std.specs.Prelude.{IfSome}
-use Rattle.std.proofs.Common.{◌≡◌, ℕ, ◌+◌, ◌<◌, Bool, List, [], ◌++◌, length, slice_get, Option, refl, sym, ap, ◌∙◌, subst}
-use Rattle.vcm_spec.specs.declared.stop.StopPlace.{StopPlace}
+use Rattle.std.proofs.Common.{◌≡◌, ℕ, ◌+◌, ◌<◌, Bool, List, [], ◌++◌, length, Option, sym, ap, ◌∙◌, subst}
 use Rattle.vcm_spec.specs.Setup.{Tables}
 use Rattle.vcm_spec.specs.Workpiece.{Workpiece}
 use Rattle.vcm_spec.specs.World.{World}

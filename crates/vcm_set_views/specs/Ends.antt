@@ -1,13 +1,13 @@
 -- How a run with several probes ends.
-use Rattle.std.specs.Prelude.{◌≡◌, ℕ, ◌+◌, ◌<◌, ◌≤◌, List, [], ◌∷◌, ◌++◌, length, decimal, codes, Option, IfSome}
-use Rattle.std.specs.Fmt.{signed_decimal}
+use Rattle.std.specs.Prelude.{◌≡◌, ℕ, ◌+◌, ◌<◌, ◌≤◌, List, length, Option, IfSome}
 use Rattle.vcm_spec.specs.declared.stop.StopPlace.{StopPlace}
 use Rattle.vcm_spec.specs.Setup.{Tables}
-use Rattle.vcm_report.specs.Printed.{in_a_row, end_line}
+use Rattle.vcm_report.specs.Printed.{end_line}
 use Rattle.vcm_turning.specs.declared.ended.NoProbe.{NoProbe}
 use Rattle.vcm_turning.specs.declared.ended.Ended.{Ended}
 use Rattle.vcm_turning.specs.declared.ended.Ended.TheVariants.{NoMemory, Lost}
 use Rattle.vcm_turning.specs.Machine.{TurningEnded}
+use Rattle.vcm_set_debug.specs.Telling as line
 use Rattle.vcm_set_views.specs.declared.ends.SetEnd.{SetEnd}
 use Rattle.vcm_set_views.specs.declared.running.Ending.{Ending}
 use Rattle.vcm_set_views.specs.Fit.{Fit, steps_of, behind}
@@ -32,8 +32,7 @@ pub record IsAtEnd (f : Fit) (n : ℕ) (e : Ending) : Type 0 where
 
 -- the line of a run that ends before a step, since no probe with the number is on: no probe 5 at 12 line 30 step 9
 abbrev pub no_probe_line : NoProbe → (step : ℕ) → List ℕ
-no_probe_line l step =
-    in_a_row (codes "no probe " ∷ signed_decimal l.value ∷ codes " at " ∷ decimal l.number ∷ codes " line " ∷ decimal l.line ∷ codes " step " ∷ decimal step ∷ codes "\n" ∷ [])
+no_probe_line l step = line.no_probe_line l step
 
 -- that line, or the one of the stop, or of so many steps without one
 abbrev pub ended_line : Tables → Ended → Option StopPlace → (done : ℕ) → List ℕ

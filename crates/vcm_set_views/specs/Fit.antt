@@ -1,5 +1,5 @@
 -- What a run with several probes is made with.
-use Rattle.std.specs.Prelude.{◌≡◌, ℕ, ◌<◌, List, length, Some, None}
+use Rattle.std.specs.Prelude.{◌≡◌, ℕ, List, Some}
 use Rattle.vcm_spec.specs.Workpiece.{Workpiece}
 use Rattle.vcm_code.specs.declared.code.Code.{Code}
 use Rattle.vcm_probe_set.specs.Parts.{why_unfit}
@@ -17,6 +17,7 @@ pub record Fit : Type 0 where
   pub variable : ℕ
   pub code : Code
 
+-- these, with the variable of this place
 abbrev pub fit_of : Workpiece → Probes → Code → ℕ → Fit
 fit_of part set c v = record { part = part; probes = set.probes; variable = v; code = c }
 

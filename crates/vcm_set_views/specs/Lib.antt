@@ -6,4 +6,7 @@ pub mod Result
 pub mod Reasons
 pub mod Story
 pub mod Drawn
+pub mod Contacts
+pub mod Debugged
+pub mod Samples
 pub mod Laws

@@ -6,7 +6,7 @@ use Rattle.vcm_marks.specs.declared.mark.Mark.{Mark}
 use Rattle.vcm_probe_set.specs.Probes.{Probe}
 use Rattle.vcm_report.specs.Printed.{in_a_row}
 use Rattle.vcm_state.specs.Held.{Held}
-use Rattle.vcm_cause.specs.Behind.{Behind, rounds_behind, before_steps}
+use Rattle.vcm_cause.specs.Behind.{Behind, rounds_behind, framed_behind, before_steps}
 use Rattle.vcm_turning.specs.declared.ended.NoProbe.{NoProbe}
 use Rattle.vcm_turning.specs.declared.ended.Ended.{Ended}
 use Rattle.vcm_turning.specs.declared.ended.Ended.TheVariants.{Lost}
@@ -21,7 +21,11 @@ use Rattle.vcm_set_views.specs.Fit.{Fit, steps_of, behind, part_behind}
 
 -- what is known behind one step more, which adds these marks to the way
 abbrev pub one_behind : Behind → TurnedStep → List Mark → Behind
-one_behind b s marks = record { marks = marks; rounds = rounds_behind b.rounds s.passage.statement.op s.passage.number s.passage.next s.passage.after.stop }
+one_behind b s marks = record {
+  marks = marks;
+  rounds = rounds_behind b.rounds s.passage.statement.op s.passage.number s.passage.next s.passage.after.stop;
+  framed = framed_behind b.framed s.passage.statement.op s.passage.statement.line s.passage.after.stop;
+}
 
 -- behind these steps
 abbrev pub known_behind : Workpiece → List Probe → Behind → List TurnedStep → Behind

@@ -1,5 +1,5 @@
 -- The story of a run with several probes.
-use Rattle.std.specs.Prelude.{ℕ, ◌-◌, Bool, nat_le, ◌==◌, if◌then◌else◌, List, [], ◌++◌, flat_map}
+use Rattle.std.specs.Prelude.{ℕ, ◌-◌, Bool, ◌==◌, if◌then◌else◌, List, [], ◌++◌, flat_map}
 use Rattle.vcm_spec.specs.Setup.{Tables}
 use Rattle.vcm_marks.specs.declared.mark.Mark.{Mark}
 use Rattle.vcm_program.specs.declared.accepted.Noticed.{Noticed}

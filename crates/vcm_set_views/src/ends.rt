@@ -4,15 +4,15 @@ ghost use Rattle.std.specs.Prelude.{◌≡◌, ◌<◌, ◌^◌, ◌-◌};
 ghost use Rattle.vcm_turning.specs.declared.ended.NoProbe.{NoProbe as Lack};
 ghost use Rattle.vcm_turning.specs.declared.ended.Ended.TheVariants.{Lost};
 ghost use Rattle.vcm_num.specs.Written.{Wrote};
-ghost use Rattle.vcm_set_views.specs.Ends.{no_probe_line, ended_line};
+ghost use Rattle.vcm_set_views.specs.Ends.{ended_line};
 
-use itoa::Buffer;
 use std::io::Write;
 use vcm_items::Tables;
-use vcm_num::{WriteFault, int_text, write_pieces};
+use vcm_num::WriteFault;
 use vcm_report::write_end_line;
+use vcm_set_debug::write_no_probe;
 use vcm_spec::StopPlace;
-use vcm_turning::{Ended, NoProbe};
+use vcm_turning::Ended;
 
 /// How many steps were taken, how the run ended, and the stop that it came to, if it did.
 #[derive(Clone, Copy)]
@@ -29,34 +29,9 @@ pub struct SetTold {
     pub end: SetEnd,
 }
 
-/// Writes the line of a run that ends before this step, since no probe with the number is on.
-///
-/// Errors: the writer failed, or took no byte; then it has taken a front of the line, and not all of it.
-pub fn write_no_probe<W: Write>(lost: NoProbe, step: u64, writer: &mut W) -> Result<(), WriteFault>
-    ensures { Wrote (W.contents writer.old) (W.contents writer.new) (no_probe_line lost step) result }
-{
-    let mut number = Buffer::new();
-    let mut line = Buffer::new();
-    let mut digits = Buffer::new();
-    write_pieces(
-        writer,
-        &[
-            b"no probe ",
-            int_text(lost.value).as_slice(),
-            b" at ",
-            number.format(lost.number).as_bytes(),
-            b" line ",
-            line.format(lost.line).as_bytes(),
-            b" step ",
-            digits.format(step).as_bytes(),
-            b"\n",
-        ],
-    )
-}
-
 /// Writes how a run ended.
 ///
-/// Errors: likewise.
+/// Errors: the writer failed, or took no byte; then it has taken a front of the line, and not all of it.
 pub(crate) fn write_ended<W: Write>(
     tables: &Tables,
     end: SetEnd,

@@ -10,25 +10,26 @@ ghost use Rattle.vcm_set_views.specs.Fit.{behind};
 ghost use Rattle.vcm_set_views.specs.Reasons.{one_behind, known_at, wanted_text, on_text, wanting_line, reason_lines, IsReason};
 ghost use Rattle.vcm_why.specs.Telling.{IsTraced};
 
-use crate::ends::{SetTold, write_no_probe};
+use crate::ends::SetTold;
 use crate::fitted::Fitted;
 use crate::following::SeesSteps;
 use crate::running::{Ending, run_seen};
 use std::alloc::Global;
 use std::io::Write;
-use vcm_cause::{Progress, before_steps, count_round};
+use vcm_cause::{Progress, before_steps, count_round, framed_behind};
 use vcm_fields::BorrowedStatement;
 use vcm_loader::Loaded;
 use vcm_naming::BlockNames;
 use vcm_num::{NoMemory, WriteFault, int_text, write_all, write_pieces};
 use vcm_part::PartData;
 use vcm_probe_set::Probe;
+use vcm_set_debug::write_no_probe;
 use vcm_state::World;
 use vcm_turning::{Ended, NoProbe, Turn, probe_on};
 use vcm_way::StepMarks;
 use vcm_why::{Origin, origin_of, write_where, write_why};
 
-/// Watches a run: what the last step adds to the way, and the rounds of its loops.
+/// Watches a run: what the last step adds to the way, the rounds of its loops, and which statement made the current frame.
 #[derive(Clone, Copy)]
 struct Watching;
 
@@ -48,7 +49,9 @@ impl SeesSteps<Progress> for Watching {
         to: &mut Progress,
     ) -> Result<(), NoMemory> {
         to.marks = *marks;
-        count_round(&mut to.rounds, &statement.op, number, next, world.stop());
+        let stop = world.stop();
+        count_round(&mut to.rounds, &statement.op, number, next, stop);
+        to.framed = framed_behind(to.framed, &statement.op, statement.line, stop);
         Ok(())
     }
 }

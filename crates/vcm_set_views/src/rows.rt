@@ -6,7 +6,7 @@ ghost use Rattle.vcm_set_views.specs.Ends.{HasEnded, IsAtEnd};
 ghost use Rattle.vcm_set_views.specs.Fit.{steps_of};
 ghost use Rattle.vcm_set_views.specs.Rows.{rows_of, open_row, lost_row, last_row, trace_of, points_of};
 
-use crate::ends::{SetTold, write_no_probe};
+use crate::ends::SetTold;
 use crate::fitted::Fitted;
 use crate::following::SeesSteps;
 use crate::running::{Ending, run_seen};
@@ -15,6 +15,7 @@ use std::io::Write;
 use vcm_fields::BorrowedStatement;
 use vcm_loader::Loaded;
 use vcm_num::{NoMemory, WriteFault};
+use vcm_set_debug::write_no_probe;
 use vcm_state::World;
 use vcm_trace::{PointRows, TraceRows, WritesRows, write_front, write_open};
 use vcm_turning::{Ended, NoProbe, Turn};

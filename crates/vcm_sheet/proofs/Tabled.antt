@@ -6,8 +6,9 @@ use Rattle.std.specs.Prelude.{nat_eq, decimal, codes, if◌then◌else◌, Resul
 use Rattle.std.specs.List.{take_while, prefix_len}
 use Rattle.std.specs.Str.{bytes_eq}
 use Rattle.vcm_sheet.specs.Sayings.{Saying, Adds, say}
-use Rattle.vcm_sheet.specs.Tables.{more_rows, number_if, named_before, last_named, numbers, table_of, blocks_table}
+use Rattle.vcm_sheet.specs.Tables.{more_rows, head_at, heads_before, number_if, named_before, last_named, numbers, table_of, blocks_table}
 use Rattle.vcm_sheet.specs.Written.{name_of}
+use Rattle.vcm_sheet.proofs.Saying.{adds_both}
 
 pub some_left : (n : ℕ) → n ≢ 0 → nat_eq n 0 ≡ false
 some_left n h = grind (arith, nat_tests)
@@ -68,3 +69,14 @@ pub range_said : {A E : Type 0} (r : Result A E) (first last : ℕ) (o n : List 
 range_said r first last o n h k =
     let some : nat_eq first last ≡ false = grind (arith, nat_tests) in
     rw some k
+
+-- the heads of columns, one more at a time
+pub one_more_head : (i : ℕ) (o n m : List ℕ) → Adds (heads_before i) o n → Adds (head_at i) n m → Adds (heads_before (i + 1)) o m
+one_more_head i o n m h k =
+    let e : i + 1 ≡ suc i = omega arith in
+    subst (λ j. Adds (heads_before j) o m) (sym e) (adds_both (heads_before i) (head_at i) o n m h k)
+
+pub all_heads : (count i : ℕ) (o n : List ℕ) → Adds (heads_before i) o n → i ≤ count → count ≤ i → Adds (heads_before count) o n
+all_heads count i o n h most least =
+    let k : i ≡ count = omega arith in
+    subst (λ m. Adds (heads_before m) o n) k h

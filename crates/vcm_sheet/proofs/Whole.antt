@@ -1,6 +1,6 @@
 -- The parts of a sheet, and the whole.
 use Rattle.std.proofs.Common.{◌≡◌, ◌∙◌, sym, ap, subst, refl, ℕ, ℤ, pos, ◌*ℤ◌, List, [], ◌∷◌, ◌++◌, length, append_assoc, append-nil}
-use Rattle.std.specs.Prelude.{Option, Result, Ok, Err, OnOk, IfOk, codes}
+use Rattle.std.specs.Prelude.{Bool, Option, Result, Ok, Err, OnOk, IfOk, codes}
 use Rattle.std.specs.Int.{int_div_euclid}
 use Rattle.vcm_num.specs.Texts.{thousandths}
 use Rattle.vcm_svg.specs.declared.rect.Spot.{Spot}
@@ -18,7 +18,7 @@ use Rattle.vcm_picture.specs.declared.view.View.TheVariants.{Top, Front, Side}
 use Rattle.vcm_picture.specs.Marks.{contact_of}
 use Rattle.vcm_picture.specs.Picture.{window_round}
 use Rattle.vcm_sheet.specs.declared.points.Pointed.{Pointed}
-use Rattle.vcm_sheet.specs.Content.{Filing, marks_shown, points_shown, window_of, stop_words, title_said, heading, used_of, tables, views, bar_said, whole, content}
+use Rattle.vcm_sheet.specs.Content.{Filing, marks_shown, points_shown, has_end, window_of, stop_words, title_said, heading, used_of, tables, views, bar_said, whole, content}
 use Rattle.vcm_sheet.specs.Ticks.{ticks_in}
 use Rattle.vcm_sheet.specs.Views.{Drawn, drawn_at}
 use Rattle.vcm_sheet.specs.Sayings.{Saying, Title, IsMute, IsSaid, Says, Adds, say}
@@ -72,16 +72,16 @@ says_all ss o n e h =
 appended : (ss : List Saying) (a h o n : List ℕ) → a ≡ [] → Adds ss a h → n ≡ o ++ h → Adds ss o n
 appended ss a h o n e k f = record { more = k.more; says = k.says; new_is = f ∙ ap (λ l. o ++ l) (k.new_is ∙ ap (λ l. l ++ k.more) e) }
 
-module _ (f : Filing) (stopped : List ℕ) (w : Window) (top front side : Drawn) (contact : Option Contact) (points : List Pointed) where
+module _ (f : Filing) (stopped : List ℕ) (is_drawn : Bool) (w : Window) (top front side : Drawn) (contact : Option Contact) (points : List Pointed) where
   -- the parts: the head, the ground, the heading, the views, the tables and the foot
   pub whole_said : (o p q s t u n a h b k : List ℕ) → o ≡ [] → a ≡ [] → b ≡ [] → Adds (title_said f stopped ∷ []) o p → Adds [] p q
-      → Adds (heading f stopped contact) a h → s ≡ q ++ h → Adds (views f stopped w top front side (length points)) s t
+      → Adds (heading f stopped is_drawn contact) a h → s ≡ q ++ h → Adds (views f stopped w top front side (length points)) s t
       → Adds (tables f (used_of w top front side) (ticks_in w) points) b k → u ≡ t ++ k → Adds (bar_said w) u n
-      → Says (whole f stopped w top front side contact points) n
+      → Says (whole f stopped is_drawn w top front side contact points) n
   unfolding whole
   whole_said o p q s t u n a h b k eo ea eb head ground lines es drawn rows eu foot =
       let title = title_said f stopped ∷ [] in
-      let above = heading f stopped contact in
+      let above = heading f stopped is_drawn contact in
       let middle = views f stopped w top front side (length points) in
       let right = tables f (used_of w top front side) (ticks_in w) points in
       says_all (title ++ (above ++ (middle ++ (right ++ bar_said w)))) o n eo
@@ -92,30 +92,32 @@ module _ (f : Filing) (stopped : List ℕ) (w : Window) (top front side : Drawn)
       (adds_both right (bar_said w) t u n (appended right b k t u eb rows eu) foot)))))
 
 module _ (f : Filing) where
-  -- with what the views of a window show of marks and points
-  abbrev with_views : List PlacedMark → List Pointed → Window → List ℕ → List Saying
-  with_views marks points w stopped =
-      whole f stopped w (drawn_at (scope_of w Top) f.part f.held marks points) (drawn_at (scope_of w Front) f.part f.held marks points)
-      (drawn_at (scope_of w Side) f.part f.held marks points) (contact_of marks) points
+  -- with what the views of a window show of marks and points, where the end is drawn or isn't
+  abbrev with_views : Bool → List PlacedMark → List Pointed → Window → List ℕ → List Saying
+  with_views d marks points w stopped =
+      whole f stopped d w (drawn_at d (scope_of w Top) f.part f.held marks points) (drawn_at d (scope_of w Front) f.part f.held marks points)
+      (drawn_at d (scope_of w Side) f.part f.held marks points) (contact_of marks) points
 
-  module _ (marks : List PlacedMark) (points : List Pointed) (w : Window) (stopped : List ℕ) (top front side : Drawn) (marks_are : marks ≡ marks_shown f)
+  module _ (marks : List PlacedMark) (points : List Pointed) (w : Window) (stopped : List ℕ) (d : Bool) (top front side : Drawn) (marks_are : marks ≡ marks_shown f)
       (points_are : points ≡ points_shown f) (window_is : w ≡ window_round f.part f.held marks f.is_close) (stopped_is : stopped ≡ stop_words f)
-      (top_is : top ≡ drawn_at (scope_of w Top) f.part f.held marks points) (front_is : front ≡ drawn_at (scope_of w Front) f.part f.held marks points)
-      (side_is : side ≡ drawn_at (scope_of w Side) f.part f.held marks points) where
-    same_views : whole f stopped w top front side (contact_of marks) points ≡ with_views marks points w stopped
+      (end_is : d ≡ has_end f)
+      (top_is : top ≡ drawn_at d (scope_of w Top) f.part f.held marks points) (front_is : front ≡ drawn_at d (scope_of w Front) f.part f.held marks points)
+      (side_is : side ≡ drawn_at d (scope_of w Side) f.part f.held marks points) where
+    same_views : whole f stopped d w top front side (contact_of marks) points ≡ with_views d marks points w stopped
     same_views =
-        ap (λ x. whole f stopped w x front side (contact_of marks) points) top_is
-        ∙ ap (λ x. whole f stopped w (drawn_at (scope_of w Top) f.part f.held marks points) x side (contact_of marks) points) front_is
-        ∙ ap (λ x. whole f stopped w (drawn_at (scope_of w Top) f.part f.held marks points) (drawn_at (scope_of w Front) f.part f.held marks points) x
+        ap (λ x. whole f stopped d w x front side (contact_of marks) points) top_is
+        ∙ ap (λ x. whole f stopped d w (drawn_at d (scope_of w Top) f.part f.held marks points) x side (contact_of marks) points) front_is
+        ∙ ap (λ x. whole f stopped d w (drawn_at d (scope_of w Top) f.part f.held marks points) (drawn_at d (scope_of w Front) f.part f.held marks points) x
         (contact_of marks) points) side_is
 
-    same_content : whole f stopped w top front side (contact_of marks) points ≡ content f
+    same_content : whole f stopped d w top front side (contact_of marks) points ≡ content f
     unfolding content
     same_content =
-        same_views ∙ ap (with_views marks points w) stopped_is ∙ ap (λ x. with_views marks points x (stop_words f)) window_is
-        ∙ ap (λ x. with_views x points (window_round f.part f.held x f.is_close) (stop_words f)) marks_are
-        ∙ ap (λ x. with_views (marks_shown f) x (window_of f) (stop_words f)) points_are
+        same_views ∙ ap (with_views d marks points w) stopped_is ∙ ap (λ x. with_views d marks points x (stop_words f)) window_is
+        ∙ ap (λ x. with_views d x points (window_round f.part f.held x f.is_close) (stop_words f)) marks_are
+        ∙ ap (λ x. with_views d (marks_shown f) x (window_of f) (stop_words f)) points_are
+        ∙ ap (λ x. with_views x (marks_shown f) (points_shown f) (window_of f) (stop_words f)) end_is
 
     pub content_said : {A E : Type 0} (r : Result A E) (bytes : A → List ℕ)
-        → IfOk r (λ v. Says (whole f stopped w top front side (contact_of marks) points) (bytes v)) → IfOk r (λ v. Says (content f) (bytes v))
+        → IfOk r (λ v. Says (whole f stopped d w top front side (contact_of marks) points) (bytes v)) → IfOk r (λ v. Says (content f) (bytes v))
     content_said r bytes h = subst (λ said. IfOk r (λ v. Says said (bytes v))) same_content h

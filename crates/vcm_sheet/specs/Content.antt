@@ -17,11 +17,12 @@ use Rattle.vcm_picture.specs.View.{scope_of}
 use Rattle.vcm_sheet.specs.declared.legend.Used.{Used}
 use Rattle.vcm_sheet.specs.declared.lines.Lines.{Lines}
 use Rattle.vcm_sheet.specs.declared.points.Pointed.{Pointed}
+use Rattle.vcm_sheet.specs.declared.readings.Reading.{Reading}
 use Rattle.vcm_sheet.specs.declared.subject.Sheet.{Sheet}
 use Rattle.vcm_sheet.specs.declared.views.Drawing.{Drawing}
-use Rattle.vcm_sheet.specs.Heading.{files_line, position_line, lines_line, contact_line, left_out_line, untried_lines}
+use Rattle.vcm_sheet.specs.Heading.{files_line, stop_line, position_line, lines_line, contact_line, left_out_line, untried_lines}
 use Rattle.vcm_sheet.specs.Legend.{used_in}
-use Rattle.vcm_sheet.specs.Lines.{marks_on}
+use Rattle.vcm_sheet.specs.Lines.{draws_end, marks_on}
 use Rattle.vcm_sheet.specs.Points.{points_on}
 use Rattle.vcm_sheet.specs.Sayings.{Saying, Title, say}
 use Rattle.vcm_sheet.specs.Tables.{legend, points_table, blocks_table}
@@ -30,13 +31,14 @@ use Rattle.vcm_sheet.specs.Views.{Drawn, drawn_at, view_said}
 use Rattle.vcm_sheet.specs.Written.{written}
 
 -- what is filed: a workpiece, with the names of its blocks; the state at the end of a run of so many steps; the marks of its way, before which so many
--- pieces are left out; of these what comes from some source lines; the names of the files of the program and of the part; and lines of what wasn't tried
+-- pieces are left out; what its steps measured; of these what comes from some source lines; the names of the files of the program and of the part; and lines of what wasn't tried
 pub record Filing : Type 0 where
   pub part : Workpiece
   pub held : Held
   pub done : ℕ
   pub marks : List PlacedMark
   pub left_out : ℕ
+  pub readings : List Reading
   pub is_close : Bool
   pub lines : Lines
   pub program_name : List ℕ
@@ -52,6 +54,7 @@ filing s = record {
   done = s.done;
   marks = s.marks.now;
   left_out = s.left_out;
+  readings = s.readings.now;
   is_close = s.is_close;
   lines = s.lines;
   program_name = s.program_name.now;
@@ -72,6 +75,10 @@ marks_shown f = marks_on f.lines f.marks
 abbrev pub points_shown : Filing → List Pointed
 points_shown f = points_on f.lines f.marks
 
+-- whether the end of the way is drawn
+abbrev pub has_end : Filing → Bool
+has_end f = draws_end f.lines f.marks
+
 -- the window
 abbrev pub window_of : Filing → Window
 window_of f = window_round f.part f.held (marks_shown f) f.is_close
@@ -82,17 +89,17 @@ stop_words f = first_line f.held.tables f.held.state.stop f.done
 
 -- what a view shows
 abbrev pub drawn : Filing → View → Drawn
-drawn f v = drawn_at (scope_of (window_of f) v) f.part f.held (marks_shown f) (points_shown f)
+drawn f v = drawn_at (has_end f) (scope_of (window_of f) v) f.part f.held (marks_shown f) (points_shown f)
 
 -- the title, with this first line of the heading
 abbrev pub title_said : Filing → List ℕ → Saying
 title_said f stopped = Title (written f.program_name ++ (codes ": " ++ stopped))
 
--- the heading with this first line, of a way with this contact
-abbrev pub heading : Filing → List ℕ → Option Contact → List Saying
-heading f stopped contact =
-    say (stopped ∷ [])
-    ∷ (files_line f.program_name f.part_name f.part.bounds.tip ++ (position_line f.held.state.position f.done ++ (lines_line f.lines
+-- the heading of a run that stopped so, whose end is drawn or isn't, and of a way with this contact
+abbrev pub heading : Filing → List ℕ → Bool → Option Contact → List Saying
+heading f stopped is_drawn contact =
+    stop_line is_drawn stopped
+    ++ (files_line f.program_name f.part_name f.part.bounds.tip ++ (position_line is_drawn f.held.state.position f.done ++ (lines_line f.lines
     ++ (contact_line f.block_names contact ++ (left_out_line f.left_out ++ untried_lines f.untried)))))
 
 -- no mark of the legend
@@ -120,7 +127,7 @@ used_of w top front side =
 -- the tables: the legend, the points, the blocks
 abbrev pub tables : Filing → Used → Ticking → List Pointed → List Saying
 tables f used ticks points =
-    legend used (has_origin ticks) ++ (points_table f.held.tables.features points ++ blocks_table f.block_names)
+    legend used (has_origin ticks) ++ (points_table f.held.tables.features f.readings points ++ blocks_table f.block_names)
 
 -- the three views
 abbrev pub views : Filing → List ℕ → Window → Drawn → Drawn → Drawn → ℕ → List Saying
@@ -134,14 +141,14 @@ abbrev pub bar_said : Window → List Saying
 bar_said w =
     say (thousandths (bar_of (int_div_euclid (scope_of w Top).wide (pos 4)) *ℤ w.grain) ∷ codes " mm; third-angle projection" ∷ []) ∷ []
 
--- all that a sheet with this window, these views and these points says, in the order in which it is written
-unfoldable pub whole : Filing → List ℕ → Window → Drawn → Drawn → Drawn → Option Contact → List Pointed → List Saying
-whole f stopped w top front side contact points =
+-- all that a sheet of a run whose end is drawn or isn't, with this window, these views and these points says, in the order in which it is written
+unfoldable pub whole : Filing → List ℕ → Bool → Window → Drawn → Drawn → Drawn → Option Contact → List Pointed → List Saying
+whole f stopped is_drawn w top front side contact points =
     title_said f stopped
-    ∷ (heading f stopped contact ++ (views f stopped w top front side (length points)
+    ∷ (heading f stopped is_drawn contact ++ (views f stopped w top front side (length points)
     ++ (tables f (used_of w top front side) (ticks_in w) points ++ bar_said w)))
 
 -- the same of what is filed
 unfoldable pub content : Filing → List Saying
 content f =
-    whole f (stop_words f) (window_of f) (drawn f Top) (drawn f Front) (drawn f Side) (contact_of (marks_shown f)) (points_shown f)
+    whole f (stop_words f) (has_end f) (window_of f) (drawn f Top) (drawn f Front) (drawn f Side) (contact_of (marks_shown f)) (points_shown f)

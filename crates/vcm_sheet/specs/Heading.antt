@@ -1,5 +1,5 @@
 -- What the heading of a sheet says, a line after another.
-use Rattle.std.specs.Prelude.{ℕ, pos, nat_eq, if◌then◌else◌, List, [], ◌∷◌, flat_map, take, Option, Some, None, decimal, codes}
+use Rattle.std.specs.Prelude.{ℕ, pos, ◌*ℤ◌, nat_eq, Bool, true, false, if◌then◌else◌, List, [], ◌∷◌, flat_map, take, Option, Some, None, decimal, codes}
 use Rattle.vcm_num.specs.declared.point.Point.{Point}
 use Rattle.vcm_num.specs.Texts.{thousandths}
 use Rattle.vcm_marks.specs.declared.mark.Contact.{Contact}
@@ -8,14 +8,20 @@ use Rattle.vcm_sheet.specs.declared.lines.Lines.{Lines}
 use Rattle.vcm_sheet.specs.Sayings.{Saying, say}
 use Rattle.vcm_sheet.specs.Written.{gap_before, name_of, written}
 
--- the files of the program and of the part, and the tip
+-- the files of the program and of the part, and the tip's diameter
 abbrev pub files_line : List ℕ → List ℕ → ℕ → List Saying
 files_line program part tip =
-    say (codes "program " ∷ written program ∷ codes "  part " ∷ written part ∷ codes "  tip " ∷ thousandths (pos tip) ∷ []) ∷ []
+    say (codes "program " ∷ written program ∷ codes "  part " ∷ written part ∷ codes "  tip &#8960; " ∷ thousandths (pos 2 *ℤ pos tip) ∷ codes " mm" ∷ []) ∷ []
 
--- the position and the steps
-abbrev pub position_line : Point → ℕ → List Saying
-position_line position done = say (codes "position " ∷ point_text position ∷ codes "  steps " ∷ decimal done ∷ []) ∷ []
+-- why the run stopped, or after how many steps it didn't, of a run whose end is drawn or isn't
+abbrev pub stop_line : Bool → List ℕ → List Saying
+stop_line true stopped = say (stopped ∷ []) ∷ []
+stop_line false stopped = say (codes "the run ends elsewhere: " ∷ stopped ∷ []) ∷ []
+
+-- the position and the steps, if the end is drawn
+abbrev pub position_line : Bool → Point → ℕ → List Saying
+position_line false position done = []
+position_line true position done = say (codes "position " ∷ point_text position ∷ codes "  steps " ∷ decimal done ∷ []) ∷ []
 
 -- the source lines, if not all are shown
 abbrev pub lines_line : Lines → List Saying

@@ -1,5 +1,6 @@
 pub mod Lines
 pub mod Points
+pub mod Readings
 pub mod Sayings
 pub mod Written
 pub mod Painted

@@ -1,14 +1,17 @@
 -- Worked examples.
-use Rattle.std.specs.Prelude.{◌≡◌, refl, ℕ, ℤ, pos, negsuc, false, [], ◌∷◌, codes}
+use Rattle.std.specs.Prelude.{◌≡◌, refl, ℕ, ℤ, pos, negsuc, true, false, [], ◌∷◌, ◌++◌, Some, None, codes}
 use Rattle.std.specs.Fmt.{digits}
 use Rattle.vcm_num.specs.Point.{point}
 use Rattle.vcm_marks.specs.declared.mark.Mark.TheVariants.{Touches}
 use Rattle.vcm_marks.specs.declared.mark.PlacedMark.{PlacedMark}
 use Rattle.vcm_svg.specs.Rect.{spot}
+use Rattle.vcm_sheet.specs.Lines.{draws_end}
 use Rattle.vcm_sheet.specs.Points.{points_on}
+use Rattle.vcm_sheet.specs.Readings.{deviation_words}
 use Rattle.vcm_sheet.specs.Sayings.{say, Says, text_with}
-use Rattle.vcm_sheet.specs.Tables.{point_row, blocks_table}
+use Rattle.vcm_sheet.specs.Tables.{point_row, points_head, heads_before, blocks_table}
 use Rattle.vcm_sheet.specs.Ticks.{ticks_of, tick_words}
+use Rattle.vcm_sheet.specs.Views.{missing_line}
 
 -- ---- points and lines
 
@@ -21,13 +24,35 @@ pub second_point : points_on (record { first = 10; last = 12 }) (touch 4 7 (pos 
     ≡ record { number = pos 2; step = record { step = 8; number = 8; line = 11 }; touched = record { at = point (pos 80000) (pos 20000) (pos 500); feature = 1 } } ∷ []
 second_point = refl
 
--- the row of such a point, whose feature is the second of these
+-- the row of such a point, whose feature is the second of these: its step, the 8th, measured a place half a millimetre too low
 pub second_row :
     point_row (codes "P" ∷ codes "Q" ∷ [])
+    (record { step = 4; at = point (pos 0) (pos 0) (pos 500); deviation = None } ∷ record { step = 8; at = point (pos 60000) (pos 0) (pos 500); deviation = Some (negsuc 499) } ∷ [])
     (record { number = pos 2; step = record { step = 8; number = 8; line = 11 }; touched = record { at = point (pos 80000) (pos 20000) (pos 500); feature = 1 } })
-    ≡ say (codes "2" ∷ []) ∷ say (codes "11" ∷ []) ∷ say (codes "Q" ∷ []) ∷ say (codes "80.000 20.000 0.500" ∷ []) ∷ []
+    ≡ say (codes "2" ∷ []) ∷ say (codes "11" ∷ []) ∷ say (codes "Q" ∷ []) ∷ say (codes "80.000 20.000 0.500" ∷ [])
+    ∷ say (codes "60.000 0.000 0.500" ∷ []) ∷ say (codes "-0.500" ∷ []) ∷ []
 unfolding digits
 second_row = refl
+
+-- of a point of a feature that wasn't declared there is no deviation, and where nothing is known of a step there is neither
+pub no_deviation : deviation_words (Some (record { step = 4; at = point (pos 0) (pos 0) (pos 500); deviation = None })) ≡ codes "-"
+no_deviation = refl
+
+-- 41 points have two columns
+pub two_columns : heads_before 41 ≡ points_head ++ points_head
+two_columns = refl
+
+-- of a way that ends on line 11 the end is drawn with the lines 10 to 12, and not with 1 to 7
+pub end_is_drawn : draws_end (record { first = 10; last = 12 }) (touch 4 7 (pos 20000) ∷ touch 8 11 (pos 80000) ∷ []) ≡ true
+end_is_drawn = refl
+
+pub end_is_elsewhere : draws_end (record { first = 1; last = 7 }) (touch 4 7 (pos 20000) ∷ touch 8 11 (pos 80000) ∷ []) ≡ false
+end_is_elsewhere = refl
+
+-- one number of three found no room
+pub one_missing : missing_line 3 2 ≡ say (codes "1" ∷ codes " number has no room" ∷ []) ∷ []
+unfolding digits
+one_missing = refl
 
 -- ---- names of blocks
 

@@ -1,5 +1,5 @@
 -- What the tables of a sheet say, row by row.
-use Rattle.std.specs.Prelude.{ℕ, zero, suc, ◌+◌, ◌-◌, nat_eq, nat_lt, Bool, ◌&&◌, ◌||◌, if◌then◌else◌, List, [], ◌∷◌, ◌++◌, length, take, drop, flat_map, decimal, codes}
+use Rattle.std.specs.Prelude.{ℕ, zero, suc, ◌+◌, ◌-◌, ◌%◌, nat_eq, nat_lt, Bool, ◌&&◌, ◌||◌, if◌then◌else◌, List, [], ◌∷◌, ◌++◌, length, take, drop, flat_map, Option, decimal, codes}
 use Rattle.std.specs.List.{take_while}
 use Rattle.std.specs.Str.{bytes_eq}
 use Rattle.std.specs.Fmt.{signed_decimal}
@@ -7,6 +7,8 @@ use Rattle.vcm_report.specs.Printed.{name_at}
 use Rattle.vcm_svg.specs.Pieces.{point_text}
 use Rattle.vcm_sheet.specs.declared.legend.Used.{Used}
 use Rattle.vcm_sheet.specs.declared.points.Pointed.{Pointed}
+use Rattle.vcm_sheet.specs.declared.readings.Reading.{Reading}
+use Rattle.vcm_sheet.specs.Readings.{reading_of, place_words, deviation_words}
 use Rattle.vcm_sheet.specs.Sayings.{Saying, say}
 use Rattle.vcm_sheet.specs.Written.{name_of, written}
 
@@ -38,22 +40,38 @@ first_rows rows = take 40 rows
 abbrev pub more_rows : ℕ → List ℕ → List Saying
 more_rows count words = if nat_eq (count - 40) 0 then [] else say (codes "and " ∷ decimal (count - 40) ∷ words ∷ []) ∷ []
 
--- the row of a point: its number, its source line, its feature and its place
-abbrev pub point_row : List (List ℕ) → Pointed → List Saying
-point_row features p =
+-- the row of a point of which this was measured: its number, its source line, its feature, its place on the machine and in the part, and its deviation
+abbrev pub measured_row : List (List ℕ) → Pointed → Option Reading → List Saying
+measured_row features p reading =
     say (signed_decimal p.number ∷ []) ∷ say (decimal p.step.line ∷ []) ∷ say (name_at features p.touched.feature ∷ [])
-    ∷ say (point_text p.touched.at ∷ []) ∷ []
+    ∷ say (point_text p.touched.at ∷ []) ∷ say (place_words reading ∷ []) ∷ say (deviation_words reading ∷ []) ∷ []
 
--- the head of the table of points
+-- the row of a point, with what its step measured
+abbrev pub point_row : List (List ℕ) → List Reading → Pointed → List Saying
+point_row features readings p = measured_row features p (reading_of readings p.step.step)
+
+-- the head of a column of points
 abbrev pub points_head : List Saying
 points_head =
-    say (codes "point" ∷ []) ∷ say (codes "line" ∷ []) ∷ say (codes "feature" ∷ []) ∷ say (codes "touched at, mm" ∷ []) ∷ []
+    say (codes "point" ∷ []) ∷ say (codes "line" ∷ []) ∷ say (codes "feature" ∷ []) ∷ say (codes "touched at, mm" ∷ []) ∷ say (codes "in the part, mm" ∷ [])
+    ∷ say (codes "deviation, mm" ∷ []) ∷ []
 
--- the table of points, if there are any
-abbrev pub points_table : List (List ℕ) → List Pointed → List Saying
-points_table features points =
-    if nat_eq (length points) 0 then [] else
-    points_head ++ (flat_map (point_row features) (first_rows points) ++ more_rows (length points) (codes " more points"))
+-- this head, if a point is the first one of its column
+abbrev pub head_if : Bool → List Saying
+head_if is_first = if is_first then points_head else []
+
+-- of the point with this index the head of its column, if it is the first one there
+abbrev pub head_at : ℕ → List Saying
+head_at index = head_if (nat_eq (index % 40) 0)
+
+-- the heads of the columns of so many points
+abbrev pub heads_before : ℕ → List Saying
+heads_before zero = []
+heads_before (suc n) = heads_before n ++ head_at n
+
+-- the table of points: 40 in a column, and as many columns as they need; the heads first
+abbrev pub points_table : List (List ℕ) → List Reading → List Pointed → List Saying
+points_table features readings points = heads_before (length points) ++ flat_map (point_row features readings) points
 
 -- a block has the name of the block before it
 abbrev pub goes_on : List (List ℕ) → ℕ → Bool

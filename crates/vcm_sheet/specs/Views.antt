@@ -1,5 +1,5 @@
 -- The shapes of a view of a sheet, and what a view says.
-use Rattle.std.specs.Prelude.{ℕ, ℤ, pos, ◌+ℤ◌, ◌-ℤ◌, ◌*ℤ◌, ◌-◌, nat_eq, Bool, true, false, not, if◌then◌else◌, List, [], ◌∷◌, ◌++◌, length, filter, flat_map, Option, Some, None, option_to_list, decimal, codes}
+use Rattle.std.specs.Prelude.{ℕ, ℤ, pos, ◌+ℤ◌, ◌-ℤ◌, ◌*ℤ◌, ◌-◌, nat_eq, Bool, true, false, not, ◌&&◌, ◌||◌, if◌then◌else◌, List, [], ◌∷◌, ◌++◌, length, filter, flat_map, Option, Some, None, option_to_list, decimal, codes}
 use Rattle.std.specs.Fmt.{signed_decimal}
 use Rattle.vcm_spec.specs.Workpiece.{Workpiece}
 use Rattle.vcm_state.specs.Held.{Held}
@@ -37,9 +37,30 @@ is_name (Path c o) = false
 is_name (Told c o t) = false
 is_name (Text l w) = is_feature w
 
--- of shapes those that are no names of features
-abbrev pub without_names : List Shape → List Shape
-without_names shapes = filter (λ x. not (is_name x)) shapes
+-- whether words are the name of the end
+abbrev pub names_end : Words → Bool
+names_end words.End = true
+names_end _ = false
+
+-- whether a tooltip tells of the end
+abbrev pub tells_end : Tip → Bool
+tells_end (tip.End p) = true
+tells_end tip.TipAtEnd = true
+tells_end _ = false
+
+-- whether a shape is of the end: its circle, the tip there, or its name
+abbrev pub is_end : Shape → Bool
+is_end (Path c o) = false
+is_end (Told c o t) = tells_end t
+is_end (Text l w) = names_end w
+
+-- whether a sheet shows a shape: no name of a feature, and those of the end where that is drawn
+abbrev pub is_kept : Bool → Shape → Bool
+is_kept is_drawn x = not (is_name x) && (is_drawn || not (is_end x))
+
+-- of shapes those
+abbrev pub kept_shapes : Bool → List Shape → List Shape
+kept_shapes is_drawn shapes = filter (is_kept is_drawn) shapes
 
 -- how many letters words have
 abbrev pub letters_in : Words → ℤ
@@ -84,24 +105,28 @@ pub record Drawn : Type 0 where
   pub shapes : List Shape
   pub numbers : List Numbered
 
--- the shapes of a view of a workpiece, a state at the end and marks
-abbrev pub shapes_at : Scope → Workpiece → Held → List PlacedMark → List Shape
-shapes_at s part held marks = without_names (scene_shapes s (scene part held []) marks)
+-- the shapes of a view of a workpiece, a state at the end and marks, where the end is drawn or isn't
+abbrev pub shapes_at : Bool → Scope → Workpiece → Held → List PlacedMark → List Shape
+shapes_at is_drawn s part held marks = kept_shapes is_drawn (scene_shapes s (scene part held []) marks)
 
 -- the same with the numbers of points that find room beside its texts and its points
-unfoldable pub drawn_at : Scope → Workpiece → Held → List PlacedMark → List Pointed → Drawn
-drawn_at s part held marks points = record {
-  shapes = shapes_at s part held marks;
-  numbers = numbers_beside s points (boxes_of (shapes_at s part held marks));
+unfoldable pub drawn_at : Bool → Scope → Workpiece → Held → List PlacedMark → List Pointed → Drawn
+drawn_at is_drawn s part held marks points = record {
+  shapes = shapes_at is_drawn s part held marks;
+  numbers = numbers_beside s points (boxes_of (shapes_at is_drawn s part held marks));
 }
 
 -- the number of a point, which begins 8 units below the upper left corner of its box
 abbrev pub number_said : ℤ → Numbered → List Saying
 number_said u n = WordsAt (spot n.area.left (n.area.top +ℤ pos 8 *ℤ u)) (joined (signed_decimal n.point.number ∷ [])) ∷ []
 
+-- what is said of so many numbers
+abbrev pub missing_words : ℕ → List ℕ
+missing_words n = if nat_eq n 1 then codes " number has no room" else codes " numbers have no room"
+
 -- how many of the numbers of points found no room in a view, if there are any
 abbrev pub missing_line : ℕ → ℕ → List Saying
-missing_line all some = if nat_eq (all - some) 0 then [] else say (decimal (all - some) ∷ codes " numbers have no room here" ∷ []) ∷ []
+missing_line all some = if nat_eq (all - some) 0 then [] else say (decimal (all - some) ∷ missing_words (all - some) ∷ []) ∷ []
 
 -- a view with these ticks and of so many points, whose features have these names, of a run with this first line of the heading
 abbrev pub view_said : List (List ℕ) → List ℕ → Scope → Ticking → Drawn → ℕ → List Saying

@@ -1,9 +1,9 @@
 //! The heading of a sheet.
 
-ghost use Rattle.std.specs.Prelude.{[], ◌∷◌, flat_map, map, IfOk};
+ghost use Rattle.std.specs.Prelude.{◌≡◌, pos, ◌*ℤ◌, [], ◌∷◌, flat_map, map, IfOk};
 ghost use Rattle.vcm_svg.specs.Pieces.{texts};
 ghost use Rattle.vcm_sheet.specs.Content.{filing, heading};
-ghost use Rattle.vcm_sheet.specs.Heading.{files_line, position_line, lines_line, contact_words, contact_line, left_out_line, note_line, untried_lines};
+ghost use Rattle.vcm_sheet.specs.Heading.{files_line, stop_line, position_line, lines_line, contact_words, contact_line, left_out_line, note_line, untried_lines};
 ghost use Rattle.vcm_sheet.specs.Sayings.{Adds, Words};
 
 use crate::lines::Lines;
@@ -38,7 +38,14 @@ fn put_line(out: &mut Vec<u8>, unit: Unit, down: i64, words: &[Fragment]) -> Res
     Ok(down.saturating_add(PITCH))
 }
 
-// Appends the line of the files and of the tip.
+// The diameter of a tip of this half width.
+fn diameter(tip: u32) -> i64
+    ensures { result ≡ pos 2 *ℤ pos tip }
+{
+    2 * i64::from(tip)
+}
+
+// Appends the line of the files and of the tip's diameter.
 fn put_files(
     alloc: Global,
     out: &mut Vec<u8>,
@@ -60,22 +67,51 @@ fn put_files(
             Fragment::Text(&program),
             Fragment::Text(b"  part "),
             Fragment::Text(&part),
-            Fragment::Text(b"  tip "),
-            Fragment::Length(i64::from(tip)),
+            Fragment::Text(b"  tip &#8960; "),
+            Fragment::Length(diameter(tip)),
+            Fragment::Text(b" mm"),
         ],
     )
 }
 
-// Appends the line of the position and the steps.
+// Appends the line of the stop, of a run whose end is drawn or isn't.
+fn put_stop(
+    out: &mut Vec<u8>,
+    unit: Unit,
+    down: i64,
+    is_drawn: bool,
+    stopped: &[u8],
+) -> Result<i64, NoMemory>
+    ensures { IfOk result (λ next. Adds (stop_line is_drawn stopped.now) out.old.items out.new.items) }
+{
+    if is_drawn {
+        return put_line(out, unit, down, &[Fragment::Text(stopped)]);
+    }
+    put_line(
+        out,
+        unit,
+        down,
+        &[
+            Fragment::Text(b"the run ends elsewhere: "),
+            Fragment::Text(stopped),
+        ],
+    )
+}
+
+// Appends the line of the position and the steps, if the end is drawn.
 fn put_position(
     out: &mut Vec<u8>,
     unit: Unit,
     down: i64,
+    is_drawn: bool,
     position: Point,
     done: u64,
 ) -> Result<i64, NoMemory>
-    ensures { IfOk result (λ next. Adds (position_line position done) out.old.items out.new.items) }
+    ensures { IfOk result (λ next. Adds (position_line is_drawn position done) out.old.items out.new.items) }
 {
+    if !is_drawn {
+        return Ok(down);
+    }
     put_line(
         out,
         unit,
@@ -219,21 +255,22 @@ fn put_untried(
     put_notes(alloc, out, unit, down, few_notes(lines))
 }
 
-/// Appends the heading with this first line, and gives how many units below the upper edge the next line would stand.
+/// Appends the heading of a run that stopped so, whose end is drawn or isn't, and gives how many units below the upper edge the next line would stand.
 pub(crate) fn put_heading(
     alloc: Global,
     out: &mut Vec<u8>,
     unit: Unit,
     first: &[u8],
     sheet: &Sheet<'_>,
+    is_drawn: bool,
     contact: Option<Contact>,
 ) -> Result<i64, NoMemory>
-    ensures { IfOk result (λ next. Adds (heading (filing sheet.now) first.now contact) out.old.items out.new.items) }
+    ensures { IfOk result (λ next. Adds (heading (filing sheet.now) first.now is_drawn contact) out.old.items out.new.items) }
 {
     let position = sheet.world.position();
-    let down = put_line(out, unit, 20, &[Fragment::Text(first)])?;
+    let down = put_stop(out, unit, 20, is_drawn, first)?;
     let down = put_files(alloc, out, unit, down, sheet)?;
-    let down = put_position(out, unit, down, position, sheet.done)?;
+    let down = put_position(out, unit, down, is_drawn, position, sheet.done)?;
     let down = put_lines(out, unit, down, sheet.lines)?;
     let down = put_contact(alloc, out, unit, down, sheet.block_names, contact)?;
     let down = put_left_out(out, unit, down, sheet.left_out)?;

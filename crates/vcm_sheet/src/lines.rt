@@ -2,7 +2,7 @@
 
 ghost use Rattle.std.specs.Prelude.{◌≡◌, IfOk};
 ghost use Rattle.std.specs.List.{filter};
-ghost use Rattle.vcm_sheet.specs.Lines.{has_line};
+ghost use Rattle.vcm_sheet.specs.Lines.{has_line, last_on, draws_end};
 
 use std::alloc::Global;
 use vcm_marks::PlacedMark;
@@ -50,4 +50,22 @@ pub fn marks_on(
 {
     let all = Vec::from_slice(alloc, marks)?;
     Ok(only_on(all, lines))
+}
+
+// Whether the last of some marks comes from one of some lines; where there is no mark, this.
+fn last_on(lines: Lines, before: bool, marks: &[PlacedMark]) -> bool
+    ensures { result ≡ last_on lines before marks.now }
+{
+    let mut is_on = before;
+    for placed in marks {
+        is_on = has_line(lines, placed.line);
+    }
+    is_on
+}
+
+/// Whether the end of a way with these marks is drawn where these lines are: with all lines it is, and else if the last mark comes from one of them.
+pub fn draws_end(lines: Lines, marks: &[PlacedMark]) -> bool
+    ensures { result ≡ draws_end lines marks.now }
+{
+    lines.first == 0 || last_on(lines, false, marks)
 }

@@ -1,28 +1,38 @@
 //! The tables of a sheet: the legend, the touched points and the names of blocks.
 
-ghost use Rattle.std.specs.Prelude.{◌≡◌, ◌≤◌, [], ◌∷◌, ◌++◌, codes, map, flat_map, length, OnOk, IfOk};
+ghost use Rattle.std.specs.Prelude.{◌≡◌, ◌≤◌, ◌%◌, nat_eq, [], ◌∷◌, ◌++◌, codes, map, flat_map, length, OnOk, IfOk};
 ghost use Rattle.std.specs.List.{take_while};
 ghost use Rattle.std.specs.Str.{bytes_eq};
-ghost use Rattle.vcm_svg.specs.Pieces.{piece_text};
+ghost use Rattle.vcm_svg.specs.Pieces.{piece_text, point_text};
+ghost use Rattle.vcm_sheet.specs.Readings.{place_words, deviation_words};
 ghost use Rattle.vcm_sheet.specs.Sayings.{Adds, say};
-ghost use Rattle.vcm_sheet.specs.Tables.{sign_row, way_signs, mark_signs, legend, first_rows, more_rows, point_row, points_head, points_table, goes_on, number_if, named_before, last_named, numbers, block_row, blocks_head, table_of, blocks_table};
+ghost use Rattle.vcm_sheet.specs.Tables.{sign_row, way_signs, mark_signs, legend, first_rows, more_rows, point_row, points_head, head_if, head_at, heads_before, points_table, goes_on, number_if, named_before, last_named, numbers, block_row, blocks_head, table_of, blocks_table};
 ghost use Rattle.vcm_sheet.specs.Written.{name_of};
 
 use crate::legend::Used;
 use crate::names::{name_of, written};
 use crate::places::{corner, moved, units};
 use crate::points::Pointed;
+use crate::readings::{Reading, deviation_words, place_words, reading_of};
 use std::alloc::Global;
 use vcm_items::Name;
-use vcm_num::{NoMemory, is};
+use vcm_num::{NoMemory, Point, is};
 use vcm_picture::name_at;
-use vcm_svg::{Class, Fragment, Lettering, Placement, Sign, Spot, Unit, put, put_row, put_text};
+use vcm_svg::{
+    Class, Fragment, Lettering, Placement, Sign, Spot, Unit, put, put_row, put_text, quotient,
+};
 
 /// How many units a row is high.
 pub(crate) const PITCH: i64 = 14;
 
-/// The most points, and the most blocks, of a table.
+/// The most names of blocks of a table, and the most points of a column.
 const MOST_ROWS: usize = 40;
+
+/// The same.
+const COLUMN_ROWS: i64 = 40;
+
+/// How many units a column of points is wide.
+pub(crate) const COLUMN_WIDTH: i64 = 620;
 
 // The place of the next row.
 fn below(at: Spot, unit: Unit) -> Spot {
@@ -197,23 +207,50 @@ pub(crate) fn put_signs(
     put_origin(out, at, unit, has_origin)
 }
 
-// Appends the row of a point, and gives the place below it.
+// Where the row of the point with this index stands: 40 rows in a column, the next column beside it.
+fn row_place(at: Spot, unit: Unit, index: i64) -> Spot {
+    let column = quotient(index, COLUMN_ROWS);
+    let row = index.rem_euclid(COLUMN_ROWS);
+    moved(
+        at,
+        units(column.saturating_mul(COLUMN_WIDTH), unit),
+        units(row.saturating_mul(PITCH), unit),
+    )
+}
+
+// Appends the places of a point, on the machine and in the part, and its deviation.
+fn put_measured(
+    out: &mut Vec<u8>,
+    at: Spot,
+    unit: Unit,
+    touched: Point,
+    reading: Option<Reading>,
+) -> Result<(), NoMemory>
+    ensures { OnOk result (Adds (say (point_text touched ∷ []) ∷ say (place_words reading ∷ []) ∷ say (deviation_words reading ∷ []) ∷ []) out.old.items out.new.items) }
+{
+    put_cell(out, at, unit, 184, Fragment::At(touched))?;
+    put_cell(out, at, unit, 352, place_words(reading))?;
+    put_cell(out, at, unit, 520, deviation_words(reading))
+}
+
+// Appends the row of a point.
 fn put_point(
     out: &mut Vec<u8>,
     at: Spot,
     unit: Unit,
     features: &[Name],
+    readings: &[Reading],
     point: &Pointed,
-) -> Result<Spot, NoMemory>
-    ensures { IfOk result (λ next. Adds (point_row features.now point.now) out.old.items out.new.items) }
+) -> Result<(), NoMemory>
+    ensures { OnOk result (Adds (point_row features.now readings.now point.now) out.old.items out.new.items) }
 {
     let line = u64::from(point.step.line);
     let name = name_at(features, point.touched.feature);
+    let reading = reading_of(readings, point.step.step);
     put_cell(out, at, unit, 0, Fragment::Number(point.number))?;
     put_cell(out, at, unit, 36, Fragment::Count(line))?;
     put_cell(out, at, unit, 78, Fragment::Text(name))?;
-    put_cell(out, at, unit, 184, Fragment::At(point.touched.at))?;
-    Ok(below(at, unit))
+    put_measured(out, at, unit, point.touched.at, reading)
 }
 
 // Appends a row that tells how many more there are, if there are any.
@@ -249,33 +286,104 @@ fn first_rows<T>(rows: &[T]) -> &[T]
     &rows[..rows.len().min(MOST_ROWS)]
 }
 
-// Appends the head of the table of points, and gives the place below it.
-fn put_points_head(out: &mut Vec<u8>, at: Spot, unit: Unit) -> Result<Spot, NoMemory>
-    ensures { IfOk result (λ next. Adds points_head out.old.items out.new.items) }
+// Appends what heads the places of points and their deviations.
+fn put_measured_head(out: &mut Vec<u8>, at: Spot, unit: Unit) -> Result<(), NoMemory>
+    ensures { OnOk result (Adds (say (codes "touched at, mm" ∷ []) ∷ say (codes "in the part, mm" ∷ []) ∷ say (codes "deviation, mm" ∷ []) ∷ []) out.old.items out.new.items) }
 {
-    let at = moved(at, 0, units(8, unit));
+    put_cell(out, at, unit, 184, Fragment::Text(b"touched at, mm"))?;
+    put_cell(out, at, unit, 352, Fragment::Text(b"in the part, mm"))?;
+    put_cell(out, at, unit, 520, Fragment::Text(b"deviation, mm"))
+}
+
+// Appends the head of a column of points.
+fn put_points_head(out: &mut Vec<u8>, at: Spot, unit: Unit) -> Result<(), NoMemory>
+    ensures { OnOk result (Adds points_head out.old.items out.new.items) }
+{
     put_cell(out, at, unit, 0, Fragment::Text(b"point"))?;
     put_cell(out, at, unit, 36, Fragment::Text(b"line"))?;
     put_cell(out, at, unit, 78, Fragment::Text(b"feature"))?;
-    put_cell(out, at, unit, 184, Fragment::Text(b"touched at, mm"))?;
-    Ok(below(at, unit))
+    put_measured_head(out, at, unit)
 }
 
-// Appends the rows of points, and gives the place below them.
+// A count as a signed number; no table has so many rows that it would be another one.
+fn signed(count: usize) -> i64 {
+    match i64::try_from(count) {
+        Ok(number) => number,
+        Err(_) => 0,
+    }
+}
+
+// Whether the point with this index is the first one of its column.
+fn is_first(index: usize) -> bool
+    ensures { result ≡ nat_eq (index % 40) 0 }
+{
+    index % MOST_ROWS == 0
+}
+
+// Appends the head of a column of points, if a point is the first one there.
+fn put_head_if(out: &mut Vec<u8>, at: Spot, unit: Unit, is_first: bool) -> Result<(), NoMemory>
+    ensures { OnOk result (Adds (head_if is_first) out.old.items out.new.items) }
+{
+    if !is_first {
+        return Ok(());
+    }
+    put_points_head(out, at, unit)
+}
+
+// Appends the head of the column of the point with this index, if it is the first one there.
+fn put_head_at(out: &mut Vec<u8>, at: Spot, unit: Unit, index: usize) -> Result<(), NoMemory>
+    ensures { OnOk result (Adds (head_at index) out.old.items out.new.items) }
+{
+    let place = row_place(at, unit, signed(index));
+    put_head_if(out, place, unit, is_first(index))
+}
+
+// Appends the heads of the columns of so many points.
+fn put_heads(out: &mut Vec<u8>, at: Spot, unit: Unit, count: usize) -> Result<(), NoMemory>
+    ensures { OnOk result (Adds (heads_before count) out.old.items out.new.items) }
+{
+    for index in 0..count {
+        put_head_at(out, at, unit, index)?;
+    }
+    Ok(())
+}
+
+// Appends the rows of points.
 fn put_point_rows(
     out: &mut Vec<u8>,
     at: Spot,
     unit: Unit,
     features: &[Name],
+    readings: &[Reading],
     points: &[Pointed],
-) -> Result<Spot, NoMemory>
-    ensures { IfOk result (λ next. Adds (flat_map (point_row features.now) points.now) out.old.items out.new.items) }
+) -> Result<(), NoMemory>
+    ensures { OnOk result (Adds (flat_map (point_row features.now readings.now) points.now) out.old.items out.new.items) }
 {
-    let mut at = at;
+    let mut index: i64 = 0;
     for point in points {
-        at = put_point(out, at, unit, features, point)?;
+        let place = row_place(at, unit, index);
+        put_point(out, place, unit, features, readings, point)?;
+        index = index.saturating_add(1);
     }
-    Ok(at)
+    Ok(())
+}
+
+/// How many columns so many points need.
+pub(crate) fn columns_of(points: usize) -> i64 {
+    quotient(signed(points).saturating_add(COLUMN_ROWS - 1), COLUMN_ROWS)
+}
+
+// The place below the table of so many points, which begins there.
+fn below_points(at: Spot, unit: Unit, points: usize) -> Spot {
+    if points == 0 {
+        return at;
+    }
+    let rows = points.min(MOST_ROWS) as i64 + 1;
+    moved(
+        at,
+        0,
+        units(rows.saturating_mul(PITCH).saturating_add(8), unit),
+    )
 }
 
 /// Appends the table of points, if there are any, and gives the place below it.
@@ -284,16 +392,16 @@ pub(crate) fn put_points(
     at: Spot,
     unit: Unit,
     features: &[Name],
+    readings: &[Reading],
     points: &[Pointed],
 ) -> Result<Spot, NoMemory>
-    ensures { IfOk result (λ next. Adds (points_table features.now points.now) out.old.items out.new.items) }
+    ensures { IfOk result (λ next. Adds (points_table features.now readings.now points.now) out.old.items out.new.items) }
 {
-    if points.is_empty() {
-        return Ok(at);
-    }
-    let at = put_points_head(out, at, unit)?;
-    let at = put_point_rows(out, at, unit, features, first_rows(points))?;
-    put_more(out, at, unit, points.len(), b" more points")
+    let head = moved(at, 0, units(8, unit));
+    put_heads(out, head, unit, points.len())?;
+    let first = below(head, unit);
+    put_point_rows(out, first, unit, features, readings, points)?;
+    Ok(below_points(at, unit, points.len()))
 }
 
 // Whether a block has the name of the block before it.

@@ -7,17 +7,17 @@ ghost use Rattle.vcm_picture.specs.declared.view.View.TheVariants.{Top, Front, S
 ghost use Rattle.vcm_sheet.specs.Content.{filing, shown_in, title_said, used_of, tables, bar_said, whole, content};
 ghost use Rattle.vcm_sheet.specs.Filed.{IsFiled};
 ghost use Rattle.vcm_sheet.specs.Sayings.{Adds, Says};
-ghost use Rattle.vcm_sheet.specs.Views.{drawn_at, number_said, missing_line, view_said};
+ghost use Rattle.vcm_sheet.specs.Views.{drawn_at, number_said, missing_words, missing_line, view_said};
 
 use crate::frames::{AxisTicks, has_origin, put_axes, put_ticks, put_words, ticks_in};
 use crate::heading::put_heading;
 use crate::legend::{NONE, Used, used_in};
-use crate::lines::marks_on;
+use crate::lines::{draws_end, marks_on};
 use crate::names::put_name;
 use crate::numbers::Numbered;
 use crate::places::{corner, moved, units};
 use crate::points::{Pointed, all_points, points_on};
-use crate::rows::{put_blocks, put_points, put_signs};
+use crate::rows::{COLUMN_WIDTH, columns_of, put_blocks, put_points, put_signs};
 use crate::subject::Sheet;
 use crate::views::{Drawing, drawing_of};
 use std::alloc::Global;
@@ -62,13 +62,15 @@ fn drawn(
     window: Window,
     view: View,
     sheet: &Sheet<'_>,
+    is_drawn: bool,
     marks: &[PlacedMark],
     points: &[Pointed],
 ) -> Result<Drawing, NoMemory>
-    ensures { IfOk result (λ d. shown_in d ≡ drawn_at (scope_of window view) sheet.now.part.now sheet.now.world.now marks.now points.now) }
+    ensures { IfOk result (λ d. shown_in d ≡ drawn_at is_drawn (scope_of window view) sheet.now.part.now sheet.now.world.now marks.now points.now) }
 {
     let scope = scope_of(window, view);
-    drawing_of(alloc, scope, sheet.part, sheet.world, marks, points)
+    let (part, world) = (sheet.part, sheet.world);
+    drawing_of(alloc, is_drawn, scope, part, world, marks, points)
 }
 
 // The drawings of the three views.
@@ -76,16 +78,17 @@ fn drawings_of(
     alloc: Global,
     window: Window,
     sheet: &Sheet<'_>,
+    is_drawn: bool,
     marks: &[PlacedMark],
     points: &[Pointed],
 ) -> Result<Drawings, NoMemory>
-    ensures top { IfOk result (λ d. shown_in d.top ≡ drawn_at (scope_of window Top) sheet.now.part.now sheet.now.world.now marks.now points.now) }
-    ensures front { IfOk result (λ d. shown_in d.front ≡ drawn_at (scope_of window Front) sheet.now.part.now sheet.now.world.now marks.now points.now) }
-    ensures side { IfOk result (λ d. shown_in d.side ≡ drawn_at (scope_of window Side) sheet.now.part.now sheet.now.world.now marks.now points.now) }
+    ensures top { IfOk result (λ d. shown_in d.top ≡ drawn_at is_drawn (scope_of window Top) sheet.now.part.now sheet.now.world.now marks.now points.now) }
+    ensures front { IfOk result (λ d. shown_in d.front ≡ drawn_at is_drawn (scope_of window Front) sheet.now.part.now sheet.now.world.now marks.now points.now) }
+    ensures side { IfOk result (λ d. shown_in d.side ≡ drawn_at is_drawn (scope_of window Side) sheet.now.part.now sheet.now.world.now marks.now points.now) }
 {
-    let top = drawn(alloc, window, View::Top, sheet, marks, points)?;
-    let front = drawn(alloc, window, View::Front, sheet, marks, points)?;
-    let side = drawn(alloc, window, View::Side, sheet, marks, points)?;
+    let top = drawn(alloc, window, View::Top, sheet, is_drawn, marks, points)?;
+    let front = drawn(alloc, window, View::Front, sheet, is_drawn, marks, points)?;
+    let side = drawn(alloc, window, View::Side, sheet, is_drawn, marks, points)?;
     Ok(Drawings { top, front, side })
 }
 
@@ -111,8 +114,13 @@ fn tables_place(window: Window, down: i64) -> Spot {
     place.spot()
 }
 
-// Where the parts of a sheet stand, in one whose tables begin and end there.
-fn places_of(window: Window, tables: Spot, below: Spot) -> Places {
+// How many units the tables are wide, of which that of the points has so many.
+fn tables_width(points: usize) -> i64 {
+    columns_of(points).saturating_mul(COLUMN_WIDTH).max(350)
+}
+
+// Where the parts of a sheet stand, in one whose tables begin and end there, and of so many points.
+fn places_of(window: Window, tables: Spot, below: Spot, points: usize) -> Places {
     let unit = window.unit();
     let top = scope_of(window, View::Top);
     let side = scope_of(window, View::Side);
@@ -125,7 +133,7 @@ fn places_of(window: Window, tables: Spot, below: Spot) -> Places {
     let foot = lower.saturating_add(side.high().get());
     let right = tables
         .x
-        .saturating_add(side.wide().get().max(units(350, unit)));
+        .saturating_add(side.wide().get().max(units(tables_width(points), unit)));
     Places {
         top: corner(left, upper),
         front: corner(left, lower),
@@ -164,9 +172,20 @@ fn put_numbers(out: &mut Vec<u8>, unit: Unit, numbers: &[Numbered]) -> Result<()
 fn missing_label(scope: Scope, at: Spot) -> Placement {
     let unit = scope.unit();
     Placement {
-        at: moved(at, units(200, unit), units(-6, unit)),
+        at: moved(at, 0, units(-18, unit)),
         size: unit.get(),
         class: Lettering::Plain,
+    }
+}
+
+// What is said of so many numbers.
+fn missing_words(missing: usize) -> &'static [u8]
+    ensures { result.now ≡ missing_words missing }
+{
+    if missing == 1 {
+        b" number has no room"
+    } else {
+        b" numbers have no room"
     }
 }
 
@@ -189,7 +208,7 @@ fn put_missing(
         missing_label(scope, at),
         &[
             Fragment::Count(missing as u64),
-            Fragment::Text(b" numbers have no room here"),
+            Fragment::Text(missing_words(missing)),
         ],
     )
 }
@@ -282,7 +301,7 @@ fn put_tables(
 {
     let features = sheet.world.tables().features();
     let at = put_signs(out, at, unit, used, has_origin(ticks))?;
-    let at = put_points(out, at, unit, features, points)?;
+    let at = put_points(out, at, unit, features, sheet.readings, points)?;
     put_blocks(alloc, out, at, unit, sheet.block_names)
 }
 
@@ -402,21 +421,23 @@ fn put_whole(
     sheet: &Sheet<'_>,
     window: Window,
     drawings: &Drawings,
+    is_drawn: bool,
     marks: &[PlacedMark],
     points: &[Pointed],
     first: &[u8],
 ) -> Result<Vec<u8>, NoMemory>
-    ensures { IfOk result (λ v. Says (whole (filing sheet.now) first.now window (shown_in drawings.now.top) (shown_in drawings.now.front) (shown_in drawings.now.side) (contact_of marks.now) points.now) v.items) }
+    ensures { IfOk result (λ v. Says (whole (filing sheet.now) first.now is_drawn window (shown_in drawings.now.top) (shown_in drawings.now.front) (shown_in drawings.now.side) (contact_of marks.now) points.now) v.items) }
 {
     let unit = window.unit();
     let ticks = ticks_in(alloc, window)?;
     let mut heading = Vec::new(alloc);
-    let down = put_heading(alloc, &mut heading, unit, first, sheet, contact_of(marks))?;
+    let contact = contact_of(marks);
+    let down = put_heading(alloc, &mut heading, unit, first, sheet, is_drawn, contact)?;
     let mut tables = Vec::new(alloc);
     let place = tables_place(window, down);
     let used = used_of(window, drawings);
     let below = put_tables(alloc, &mut tables, place, unit, used, &ticks, sheet, points)?;
-    let places = places_of(window, place, below);
+    let places = places_of(window, place, below, points.len());
     let mut out = Vec::new(alloc);
     put_head(&mut out, unit, &places, sheet, first)?;
     let has_notes = !sheet.untried.is_empty();
@@ -455,10 +476,13 @@ fn sheet_bytes(alloc: Global, sheet: &Sheet<'_>) -> Result<Vec<u8>, NoMemory>
     let points = numbered.as_slice();
     let world = sheet.world;
     let window = window_shown(sheet.part, world, marks, sheet.is_close);
-    let drawings = drawings_of(alloc, window, sheet, marks, points)?;
+    let is_drawn = draws_end(sheet.lines, sheet.marks);
+    let drawings = drawings_of(alloc, window, sheet, is_drawn, marks, points)?;
     let line = first_line(alloc, world.tables(), world.stop(), sheet.done)?;
     let first = line.as_slice();
-    put_whole(alloc, sheet, window, &drawings, marks, points, first)
+    put_whole(
+        alloc, sheet, window, &drawings, is_drawn, marks, points, first,
+    )
 }
 
 /// Writes a sheet as SVG. It says what `content` in `specs/Content.antt` says of what is filed: the stop, the files, the touched points with their numbers, the

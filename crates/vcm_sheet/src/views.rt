@@ -4,7 +4,7 @@ ghost use Rattle.std.specs.Prelude.{◌≡◌, ◌++◌, [], pos, length, decima
 ghost use Rattle.vcm_picture.specs.Drawing.{scene, scene_shapes};
 ghost use Rattle.vcm_picture.specs.Ranges.{IsLetters};
 ghost use Rattle.vcm_sheet.specs.Content.{shown_in};
-ghost use Rattle.vcm_sheet.specs.Views.{is_feature, is_name, without_names, letters_in, text_box, circle_box, point_box, box_of, boxes_of, drawn_at};
+ghost use Rattle.vcm_sheet.specs.Views.{is_feature, is_name, names_end, tells_end, is_end, is_kept, kept_shapes, letters_in, text_box, circle_box, point_box, box_of, boxes_of, drawn_at};
 
 use crate::numbers::{Numbered, numbers_of};
 use crate::points::Pointed;
@@ -48,11 +48,53 @@ fn is_feature(words: &Words) -> bool
     }
 }
 
-// Of shapes those that are no names of features.
-fn without_names(mut shapes: Vec<Shape>) -> Vec<Shape>
-    ensures { result.items ≡ without_names shapes.items }
+// Whether words are the name of the end.
+fn names_end(words: &Words) -> bool
+    ensures { result ≡ names_end words.now }
 {
-    shapes.retain(|shape| !is_name(shape));
+    match words {
+        Words::End => true,
+        Words::Number(_) => false,
+        Words::Block(_) => false,
+        Words::Home => false,
+        Words::Feature(_) => false,
+    }
+}
+
+// Whether a tooltip tells of the end.
+fn tells_end(tip: &Tip) -> bool
+    ensures { result ≡ tells_end tip.now }
+{
+    match tip {
+        Tip::End(_) => true,
+        Tip::TipAtEnd => true,
+        _ => false,
+    }
+}
+
+// Whether a shape is of the end.
+fn is_end(shape: &Shape) -> bool
+    ensures { result ≡ is_end shape.now }
+{
+    match shape {
+        Shape::Path(_, _) => false,
+        Shape::Told(_, _, tip) => tells_end(tip),
+        Shape::Text(_, words) => names_end(words),
+    }
+}
+
+// Whether a sheet shows a shape.
+fn is_kept(is_drawn: bool, shape: &Shape) -> bool
+    ensures { result ≡ is_kept is_drawn shape.now }
+{
+    !is_name(shape) && (is_drawn || !is_end(shape))
+}
+
+// Of shapes those that a sheet shows.
+fn kept_shapes(is_drawn: bool, mut shapes: Vec<Shape>) -> Vec<Shape>
+    ensures { result.items ≡ kept_shapes is_drawn shapes.items }
+{
+    shapes.retain(|shape| is_kept(is_drawn, shape));
     shapes
 }
 
@@ -152,7 +194,7 @@ fn boxes_of(alloc: Global, shapes: &[Shape]) -> Result<Vec<Rect>, NoMemory>
     Ok(boxes)
 }
 
-/// What a view of a sheet shows of a workpiece, the state at the end, marks, and points with numbers.
+/// What a view of a sheet shows of a workpiece, the state at the end, which is drawn or isn't, marks, and points with numbers.
 ///
 /// # Errors
 ///
@@ -160,6 +202,7 @@ fn boxes_of(alloc: Global, shapes: &[Shape]) -> Result<Vec<Rect>, NoMemory>
 #[tactic(auto, unfolding(crate::specs::Views::drawn_at))]
 pub(crate) fn drawing_of(
     alloc: Global,
+    is_drawn: bool,
     scope: Scope,
     part: &PartData,
     world: &World,
@@ -167,11 +210,11 @@ pub(crate) fn drawing_of(
     points: &[Pointed],
 ) -> Result<Drawing, NoMemory>
     ensures scope { IfOk result (λ d. d.scope ≡ scope) }
-    ensures shapes { IfOk result (λ d. d.shapes.items ≡ without_names (scene_shapes scope (scene part.now world.now []) marks.now)) }
-    ensures drawn { IfOk result (λ d. shown_in d ≡ drawn_at scope part.now world.now marks.now points.now) }
+    ensures shapes { IfOk result (λ d. d.shapes.items ≡ kept_shapes is_drawn (scene_shapes scope (scene part.now world.now []) marks.now)) }
+    ensures drawn { IfOk result (λ d. shown_in d ≡ drawn_at is_drawn scope part.now world.now marks.now points.now) }
 {
     let all = scene_shapes(alloc, scope, part, world, marks)?;
-    let shapes = without_names(all);
+    let shapes = kept_shapes(is_drawn, all);
     let mut taken = boxes_of(alloc, shapes.as_slice())?;
     let numbers = numbers_of(alloc, scope, points, &mut taken)?;
     Ok(Drawing {

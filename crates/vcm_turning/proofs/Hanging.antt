@@ -62,6 +62,9 @@ module _ (part : Workpiece) (limits : HasTurningLimits part) where
       let to = high.1 in
       (omega (arith, ints), omega (arith, ints))
 
+  pub near_within : (p : Point) → is_within part.bounds (coordinate p) ≡ true → is_near p ≡ true
+  near_within p h = near_if p (λ k l. let z = within_each p h k l in let a = z.0 in let b = z.1 in (omega (arith, ints), omega (arith, ints)))
+
   hangs_within : (o : Option Probe) (valid : (q : Probe) → o ≡ Some q → is_corner q.pivot ≡ true) (p : Point) → is_within part.bounds (coordinate p) ≡ true → HangsNear o p
   hangs_within None valid p h = within_each p h
   hangs_within (Some q) valid p h = λ k l.
@@ -86,6 +89,11 @@ tipped_limits part (Some t) h = h
 corner_of : (o : Option Probe) → IfSome o IsProbe → (q : Probe) → o ≡ Some q → is_corner q.pivot ≡ true
 corner_of None h q e = absurd cc
 corner_of (Some p) h q e = let same : p ≡ q = cc in subst (λ (x : Probe). is_corner x.pivot ≡ true) same h.pivot
+
+-- it hangs near wherever it is put within the limits
+pub hangs_placed : (part : Workpiece) (ps : List Probe) (on : Option ℕ) → HasTurningLimits part → IfSome (probe_on ps on) IsProbe → (p : Point)
+    → is_within part.bounds (coordinate p) ≡ true → HangsNear (probe_on ps on) p
+hangs_placed part ps on limits valid p h = hangs_within part limits (probe_on ps on) (corner_of (probe_on ps on) valid) p h
 
 -- a statement that goes on leaves it near
 pub hangs_after : (part : Workpiece) (ps : List Probe) (on : Option ℕ) → HasTurningLimits part → IfSome (probe_on ps on) IsProbe

@@ -1,13 +1,16 @@
 -- A machine that turns its head, and its runs.
-use Rattle.std.specs.Prelude.{◌≡◌, ℕ, suc, ◌<◌, ◌≤◌, ℤ, pos, negsuc, ◌≤ℤ◌, ◌+ℤ◌, true, ◌&&◌, List, length, slice_get, Option, Some, None}
+use Rattle.std.specs.Prelude.{◌≡◌, ℕ, suc, ◌+◌, ◌<◌, ◌≤◌, ℤ, pos, negsuc, ◌≤ℤ◌, ◌+ℤ◌, true, ◌&&◌, List, length, slice_get, slice_set, Option, Some, None}
 use Rattle.vcm_num.specs.declared.point.Point.{Point}
 use Rattle.vcm_num.specs.Point.{coordinate}
+use Rattle.vcm_spec.specs.declared.feature.Feature.{Feature}
+use Rattle.vcm_spec.specs.declared.stop.Stop.{Stop}
 use Rattle.vcm_spec.specs.declared.stop.StopPlace.{StopPlace}
 use Rattle.vcm_spec.specs.Setup.{setup_of}
 use Rattle.vcm_spec.specs.Workpiece.{Workpiece}
+use Rattle.vcm_spec.specs.World.{stopped}
 use Rattle.vcm_code.specs.Code.{CodeStatement}
 use Rattle.vcm_code.specs.declared.code.Code.{Code}
-use Rattle.vcm_code.specs.CodeTable.{CodeState, start}
+use Rattle.vcm_code.specs.CodeTable.{CodeState, code_state, start}
 use Rattle.vcm_machine.specs.Running.{Running, WantsMemory}
 use Rattle.vcm_probe_set.specs.Probes.{Probe}
 use Rattle.vcm_probe_set.specs.Parts.{is_turning_limit}
@@ -15,7 +18,7 @@ use Rattle.vcm_turning.specs.declared.ended.Ended.{Ended}
 use Rattle.vcm_turning.specs.declared.ended.Ended.TheVariants as end
 use Rattle.vcm_turning.specs.declared.ended.Ran.{Ran}
 use Rattle.vcm_turning.specs.declared.turn.Turn.{Turn}
-use Rattle.vcm_turning.specs.Choosing.{part_by}
+use Rattle.vcm_turning.specs.Choosing.{probe_on, place_with, part_by}
 use Rattle.vcm_turning.specs.Turning.{Turned, turned, put_behind, stepped, taken, turned_after}
 use Rattle.vcm_turning.specs.Steps.{turned_steps}
 
@@ -56,6 +59,39 @@ IsWithinOf most z = (negsuc most ≤ℤ z) × (z ≤ℤ pos (suc most))
 abbrev pub HangsNear : Option Probe → Point → Type 0
 HangsNear None at = (k : ℕ) → k < 3 → IsWithinOf 979999999 (coordinate at k)
 HangsNear (Some p) at = (k : ℕ) → k < 3 → IsWithinOf 989999999 (coordinate at k +ℤ coordinate p.pivot k)
+
+-- with a stop at the statement that is next
+abbrev pub halted : Turner → CodeStatement → Stop → Turner
+halted m s why = record m { state = code_state (stopped m.state.world why m.state.next s.line) m.state.next m.state.pairs }
+
+-- with the probe of this place put on, if there is one
+abbrev pub with_probe : Turner → Option ℕ → Turner
+with_probe m None = m
+with_probe m (Some i) = record m {
+  state = code_state (record (m.state.world) { position = place_with m.state.world.position (probe_on m.probes m.on) (slice_get m.probes i) }) m.state.next m.state.pairs;
+  on = Some i;
+}
+
+-- with the centre of the tip at a point
+abbrev pub placed : Turner → Point → Turner
+placed m at = record m { state = code_state (record (m.state.world) { position = at }) m.state.next m.state.pairs }
+
+-- with the feature of this index measured so
+abbrev pub with_actual : Turner → ℕ → Feature → Turner
+with_actual m i f = record m { state = code_state (record (m.state.world) { actual = slice_set m.state.world.actual i (Some f) }) m.state.next m.state.pairs }
+
+-- with the statement behind the next one as the next
+abbrev pub skipped : Turner → Turner
+skipped m = record m { state = code_state m.state.world (m.state.next + 1) m.state.pairs }
+
+-- the state behind the step of the code
+abbrev pub stepped_of : Turner → CodeState
+stepped_of m = stepped m.part m.probes m.code (turned_of m)
+
+-- the next statement was carried out from the first to the second, and went on; or it has this stop, and the machine is as it was
+abbrev pub HasGone : Turner → Option Stop → Turner → Type 0
+HasGone old None new = (new ≡ record old { state = stepped_of old }) × (new.state.world.stop ≡ None)
+HasGone old (Some why) new = (new ≡ old) × (s : CodeStatement) × StandsAt old s × (stepped_of old ≡ (halted old s why).state)
 
 -- a step that was taken has gone from the first to the second
 pub record HasTurned (old : Turner) (turn : Turn) (new : Turner) : Type 0 where

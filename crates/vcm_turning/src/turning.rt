@@ -15,10 +15,10 @@ use vcm_items::BoundedStack;
 use vcm_loader::Loaded;
 use vcm_machine::carry_out;
 use vcm_motion::Part;
-use vcm_num::NoMemory;
+use vcm_num::{NoMemory, Point};
 use vcm_part::PartData;
 use vcm_probe_set::{Probe, ProbeSet};
-use vcm_spec::Stop;
+use vcm_spec::{Feature, Stop};
 use vcm_state::{Halt, World};
 use vcm_way::{Task, look};
 
@@ -86,12 +86,14 @@ fn is_missed(task: Task, probes: &[Probe], on: Option<usize>, value: i64) -> boo
 
 impl<'a, P: Part> Turning<'a, P> {
     ghost use Rattle.std.specs.Prelude.{◌≡◌, ◌<◌, None, true, false, length, map, IfOk, IfSome, OnErr, MatchOption};
+    ghost use Rattle.vcm_num.specs.Point.{coordinate};
+    ghost use Rattle.vcm_spec.specs.Workpiece.{is_within};
     ghost use Rattle.vcm_code.specs.Code.{CodeStatement};
+    ghost use Rattle.vcm_code.specs.Valid.{IsLast};
     ghost use Rattle.vcm_machine.specs.Running.{WantsMemory};
     ghost use Rattle.vcm_turning.specs.Choosing.{value_of, probe_on, put_at, tipped, part_by};
     ghost use Rattle.vcm_turning.specs.Turning.{is_lost};
-    ghost use Rattle.vcm_turning.specs.Machine.{turner, turned_of, carrier, StandsAt, HasTurningLimits, HangsNear, HasTurned};
-    ghost use Rattle.vcm_turning.specs.inner.Standing.{halted, with_probe};
+    ghost use Rattle.vcm_turning.specs.Machine.{turner, turned_of, carrier, StandsAt, HasTurningLimits, HangsNear, HasGone, HasTurned, halted, with_probe, placed, with_actual, skipped};
 
     /// A machine at the start of a code, with no probe on. The variable is that of this place.
     ///
@@ -219,8 +221,8 @@ impl<'a, P: Part> Turning<'a, P> {
         }
     }
 
-    // The run stops at the next statement.
-    fn halt(&mut self, stop: Stop) -> Turn
+    /// The run stops at the next statement.
+    pub fn halt(&mut self, stop: Stop) -> Turn
         ensures turn { result ≡ record { stood = self.old.state.world.position; put = None } }
         ensures halted { (s : CodeStatement) × StandsAt self.old s × (self.new ≡ halted self.old s stop) }
     {
@@ -230,8 +232,8 @@ impl<'a, P: Part> Turning<'a, P> {
         Turn { stood, put: None }
     }
 
-    // Behind a step that didn't stop: the chosen probe is put on, unless it is on.
-    fn turn(&mut self) -> Turn
+    /// The chosen probe is put on, unless it is on.
+    pub fn turn(&mut self) -> Turn
         ensures turn { result ≡ record { stood = self.old.state.world.position; put = put_at self.old.probes self.old.on (value_of self.old.state.world self.old.variable) } }
         ensures behind { self.new ≡ with_probe self.old result.put }
     {
@@ -252,12 +254,36 @@ impl<'a, P: Part> Turning<'a, P> {
         }
     }
 
-    /// One step, where there is no stop and the statement isn't lost.
+    /// The centre of the tip is put at a point within the limits, without a move.
+    pub fn stand(&mut self, at: Point)
+        requires { is_within self.old.part.bounds (coordinate at) ≡ true }
+        ensures { self.new ≡ placed self.old at }
+    {
+        self.world.put(at);
+    }
+
+    /// A feature, given by its index, is measured: it is then at a point of part coordinates, with a direction.
+    pub fn set_actual(&mut self, feature: u16, measured: Feature)
+        requires { feature < length self.old.code.tables.features }
+        ensures { self.new ≡ with_actual self.old feature measured }
+    {
+        self.world.set_actual(feature, measured);
+    }
+
+    /// The statement behind the next one comes next instead of it.
+    pub fn skip(&mut self)
+        requires { (s : CodeStatement) × StandsAt self.old s × (IsLast s.op → ⊥) }
+        ensures { self.new ≡ skipped self.old }
+    {
+        self.next += 1;
+    }
+
+    /// Carries out the next statement with the probe that is on, where there is no stop. It answers the statement's stop, if it has one; the machine is then as it was.
     ///
     /// Errors: want of memory, at a statement that makes an output line and would not stop. The machine is then as it was.
-    pub fn step(&mut self, alloc: Global) -> Result<Turn, NoMemory>
+    pub fn go(&mut self, alloc: Global) -> Result<Option<Stop>, NoMemory>
         requires { self.old.state.world.stop ≡ None }
-        ensures ok { IfOk result (λ turn. HasTurned self.old turn self.new) }
+        ensures ok { IfOk result (λ stop. HasGone self.old stop self.new) }
         ensures err { OnErr result ((self.new ≡ self.old) × WantsMemory (carrier self.old.part self.old.probes self.old.code (turned_of self.old))) }
     {
         let loaded = self.loaded;
@@ -275,10 +301,25 @@ impl<'a, P: Part> Turning<'a, P> {
         ) {
             Ok(next) => {
                 self.next = next;
-                Ok(self.turn())
+                Ok(None)
             }
-            Err(Halt::Stop(stop)) => Ok(self.halt(stop)),
+            Err(Halt::Stop(stop)) => Ok(Some(stop)),
             Err(Halt::NoMemory) => Err(NoMemory),
+        }
+    }
+
+    /// One step, where there is no stop and the statement isn't lost.
+    ///
+    /// Errors: want of memory, at a statement that makes an output line and would not stop. The machine is then as it was.
+    pub fn step(&mut self, alloc: Global) -> Result<Turn, NoMemory>
+        requires { self.old.state.world.stop ≡ None }
+        ensures ok { IfOk result (λ turn. HasTurned self.old turn self.new) }
+        ensures err { OnErr result ((self.new ≡ self.old) × WantsMemory (carrier self.old.part self.old.probes self.old.code (turned_of self.old))) }
+    {
+        match self.go(alloc) {
+            Ok(None) => Ok(self.turn()),
+            Ok(Some(stop)) => Ok(self.halt(stop)),
+            Err(fault) => Err(fault),
         }
     }
 }

@@ -3,7 +3,7 @@ use Rattle.std.proofs.Common.{◌≡◌, ℕ, ◌+◌, ◌≤◌, Bool, true, fa
 use Rattle.std.specs.Prelude.{if◌then◌else◌}
 use Rattle.vcm_remarks.specs.declared.remark.Cause.{Cause}
 use Rattle.vcm_remarks.specs.declared.remark.Remark.{Remark}
-use Rattle.vcm_remarks.specs.declared.remark.Remark.TheVariants.{NotTried, Approached, BeginsElsewhere, NotReported, AnotherTip, Loses, Ends}
+use Rattle.vcm_remarks.specs.declared.remark.Remark.TheVariants.{NotTried, Approached, BeginsElsewhere, NotReported, AnotherTip, NotInFile, Loses, Ends}
 use Rattle.vcm_remarks.specs.declared.remark.NumberedRemark.{NumberedRemark}
 use Rattle.vcm_steps.specs.Passages.{Passage}
 use Rattle.vcm_untried.specs.declared.about.About.{About}
@@ -47,6 +47,7 @@ module _ (asked : About → ℕ → Bool) where
   as_asked t Approached line cause = add_asked about.Approached line t.rows
   as_asked t NotReported line cause = add_asked about.NotReported line t.rows
   as_asked t AnotherTip line cause = add_asked about.AnotherTip line t.rows
+  as_asked t NotInFile line cause = add_asked about.NotInFile line t.rows
   as_asked t (Loses what) line cause = omega arith
   as_asked t Ends line cause = omega arith
 

@@ -10,6 +10,7 @@ pub mod Markings
 pub mod Touching
 pub mod Joined
 pub mod Ended
+pub mod Turns
 pub mod Same
 pub mod Asked
 pub mod Summed

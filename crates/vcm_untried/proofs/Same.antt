@@ -3,7 +3,7 @@ use Rattle.std.proofs.Common.{◌≡◌, ℕ, Bool, true, false, ◌&&◌, nat_e
 use Rattle.vcm_remarks.specs.declared.remark.Cause.{Cause}
 use Rattle.vcm_remarks.specs.declared.remark.Cause.TheVariants.{Table, Mode, Scanning, Unit as UnitLost, Frame, Setting, Value, All}
 use Rattle.vcm_untried.specs.declared.about.About.{About}
-use Rattle.vcm_untried.specs.declared.about.About.TheVariants.{NotTried, Approached, BeginsElsewhere, NotReported, AnotherTip}
+use Rattle.vcm_untried.specs.declared.about.About.TheVariants.{NotTried, Approached, BeginsElsewhere, NotReported, AnotherTip, NotInFile}
 use Rattle.vcm_untried.specs.About.{place_of, rank, since_of, same}
 
 -- the causes in their order
@@ -55,6 +55,17 @@ by_parts AnotherTip Approached r s = absurd (apart 11 8 r refl)
 by_parts AnotherTip BeginsElsewhere r s = absurd (apart 11 9 r refl)
 by_parts AnotherTip NotReported r s = absurd (apart 11 10 r refl)
 by_parts AnotherTip AnotherTip r s = refl
+by_parts AnotherTip NotInFile r s = absurd (apart 11 12 r refl)
+by_parts (NotTried c m) NotInFile r s = absurd (no_place c 12 refl r)
+by_parts NotInFile (NotTried d n) r s = absurd (no_place d 12 refl (sym r))
+by_parts Approached NotInFile r s = absurd (apart 8 12 r refl)
+by_parts BeginsElsewhere NotInFile r s = absurd (apart 9 12 r refl)
+by_parts NotReported NotInFile r s = absurd (apart 10 12 r refl)
+by_parts NotInFile Approached r s = absurd (apart 12 8 r refl)
+by_parts NotInFile BeginsElsewhere r s = absurd (apart 12 9 r refl)
+by_parts NotInFile NotReported r s = absurd (apart 12 10 r refl)
+by_parts NotInFile AnotherTip r s = absurd (apart 12 11 r refl)
+by_parts NotInFile NotInFile r s = refl
 
 both_true : (x y : Bool) → (x && y) ≡ true → (x ≡ true) × (y ≡ true)
 both_true true y e = (refl, e)

@@ -3,7 +3,7 @@ use Rattle.std.proofs.Common.{◌≡◌, ℕ, suc, ◌+◌, ◌≤◌, Bool, tru
 use Rattle.std.specs.Prelude.{if◌then◌else◌}
 use Rattle.vcm_remarks.specs.declared.remark.Cause.{Cause}
 use Rattle.vcm_remarks.specs.declared.remark.Remark.{Remark}
-use Rattle.vcm_remarks.specs.declared.remark.Remark.TheVariants.{NotTried, Approached, BeginsElsewhere, NotReported, AnotherTip, Loses, Ends}
+use Rattle.vcm_remarks.specs.declared.remark.Remark.TheVariants.{NotTried, Approached, BeginsElsewhere, NotReported, AnotherTip, NotInFile, Loses, Ends}
 use Rattle.vcm_remarks.specs.declared.remark.NumberedRemark.{NumberedRemark}
 use Rattle.vcm_steps.specs.Passages.{Passage}
 use Rattle.vcm_untried.specs.declared.about.About.{About}
@@ -35,6 +35,7 @@ as_at_most n t BeginsElsewhere line cause h = add_at_most about.BeginsElsewhere 
 as_at_most n t Approached line cause h = add_at_most about.Approached line n t.rows h
 as_at_most n t NotReported line cause h = add_at_most about.NotReported line n t.rows h
 as_at_most n t AnotherTip line cause h = add_at_most about.AnotherTip line n t.rows h
+as_at_most n t NotInFile line cause h = add_at_most about.NotInFile line n t.rows h
 as_at_most n t (Loses what) line cause h = at_more n (suc n) t.rows (omega arith) h
 as_at_most n t Ends line cause h = at_more n (suc n) t.rows (omega arith) h
 

@@ -3,7 +3,7 @@ use Rattle.std.proofs.Common.{◌≡◌, ℕ, ◌+◌, ◌<◌, ◌^◌, Bool, t
 use Rattle.std.specs.Prelude.{if◌then◌else◌}
 use Rattle.vcm_remarks.specs.declared.remark.Cause.{Cause}
 use Rattle.vcm_remarks.specs.declared.remark.Remark.{Remark}
-use Rattle.vcm_remarks.specs.declared.remark.Remark.TheVariants.{NotTried, Approached, BeginsElsewhere, NotReported, AnotherTip, Loses, Ends}
+use Rattle.vcm_remarks.specs.declared.remark.Remark.TheVariants.{NotTried, Approached, BeginsElsewhere, NotReported, AnotherTip, NotInFile, Loses, Ends}
 use Rattle.vcm_remarks.specs.declared.remark.NumberedRemark.{NumberedRemark}
 use Rattle.vcm_steps.specs.Passages.{Passage}
 use Rattle.vcm_untried.specs.declared.about.About.{About}
@@ -107,6 +107,7 @@ now_untried lost BeginsElsewhere line cause = refl
 now_untried lost Approached line cause = refl
 now_untried lost NotReported line cause = refl
 now_untried lost AnotherTip line cause = refl
+now_untried lost NotInFile line cause = refl
 now_untried lost (Loses what) line cause = refl
 now_untried lost Ends line cause = refl
 

@@ -3,7 +3,7 @@ use Rattle.std.proofs.Common.{◌≡◌, ℕ, ◌+◌, Bool, true, false, ◌&&�
 use Rattle.std.specs.Prelude.{if◌then◌else◌}
 use Rattle.vcm_remarks.specs.declared.remark.Cause.{Cause}
 use Rattle.vcm_remarks.specs.declared.remark.Remark.{Remark}
-use Rattle.vcm_remarks.specs.declared.remark.Remark.TheVariants.{NotTried, Approached, BeginsElsewhere, NotReported, AnotherTip, Loses, Ends}
+use Rattle.vcm_remarks.specs.declared.remark.Remark.TheVariants.{NotTried, Approached, BeginsElsewhere, NotReported, AnotherTip, NotInFile, Loses, Ends}
 use Rattle.vcm_remarks.specs.declared.remark.NumberedRemark.{NumberedRemark}
 use Rattle.vcm_steps.specs.Passages.{Passage}
 use Rattle.vcm_untried.specs.declared.about.About.{About}
@@ -39,6 +39,7 @@ as_tried t BeginsElsewhere line cause = not_rows (add about.BeginsElsewhere line
 as_tried t Approached line cause = not_rows (add about.Approached line t.rows) t.end (some_added about.Approached line t.rows)
 as_tried t NotReported line cause = not_rows (add about.NotReported line t.rows) t.end (some_added about.NotReported line t.rows)
 as_tried t AnotherTip line cause = not_rows (add about.AnotherTip line t.rows) t.end (some_added about.AnotherTip line t.rows)
+as_tried t NotInFile line cause = not_rows (add about.NotInFile line t.rows) t.end (some_added about.NotInFile line t.rows)
 as_tried t (Loses what) line cause = refl
 as_tried t Ends line cause = not_end (is_none t.rows) t.end line
 

@@ -3,7 +3,7 @@ use Rattle.std.specs.Prelude.{ℕ, Bool, nat_eq, ◌&&◌}
 use Rattle.vcm_remarks.specs.declared.remark.Cause.{Cause}
 use Rattle.vcm_remarks.specs.declared.remark.Cause.TheVariants.{Table, Mode, Scanning, Unit as UnitLost, Frame, Setting, Value, All}
 use Rattle.vcm_untried.specs.declared.about.About.{About}
-use Rattle.vcm_untried.specs.declared.about.About.TheVariants.{NotTried, Approached, BeginsElsewhere, NotReported, AnotherTip}
+use Rattle.vcm_untried.specs.declared.about.About.TheVariants.{NotTried, Approached, BeginsElsewhere, NotReported, AnotherTip, NotInFile}
 
 -- the place of a cause
 abbrev pub place_of : Cause → ℕ
@@ -23,6 +23,7 @@ rank Approached = 8
 rank BeginsElsewhere = 9
 rank NotReported = 10
 rank AnotherTip = 11
+rank NotInFile = 12
 
 -- since which line it is so
 abbrev pub since_of : About → ℕ
@@ -31,6 +32,7 @@ since_of Approached = 0
 since_of BeginsElsewhere = 0
 since_of NotReported = 0
 since_of AnotherTip = 0
+since_of NotInFile = 0
 
 -- the same is reported
 abbrev pub same : About → About → Bool

@@ -4,7 +4,7 @@ use Rattle.vcm_spec.specs.Workpiece.{Workpiece}
 use Rattle.vcm_code.specs.declared.code.Code.{Code}
 use Rattle.vcm_remarks.specs.declared.remark.Cause.{Cause}
 use Rattle.vcm_remarks.specs.declared.remark.Remark.{Remark}
-use Rattle.vcm_remarks.specs.declared.remark.Remark.TheVariants.{NotTried, Approached, BeginsElsewhere, NotReported, AnotherTip, Loses, Ends}
+use Rattle.vcm_remarks.specs.declared.remark.Remark.TheVariants.{NotTried, Approached, BeginsElsewhere, NotReported, AnotherTip, NotInFile, Loses, Ends}
 use Rattle.vcm_remarks.specs.declared.remark.NumberedRemark.{NumberedRemark}
 use Rattle.vcm_steps.specs.Passages.{Passage, passages}
 use Rattle.vcm_untried.specs.declared.about.About.{About}
@@ -34,6 +34,7 @@ told_now lost Approached cause = Some about.Approached
 told_now lost BeginsElsewhere cause = Some about.BeginsElsewhere
 told_now lost NotReported cause = Some about.NotReported
 told_now lost AnotherTip cause = Some about.AnotherTip
+told_now lost NotInFile cause = Some about.NotInFile
 told_now lost (Loses what) cause = None
 told_now lost Ends cause = None
 
@@ -73,6 +74,7 @@ is_untried about.Approached = false
 is_untried about.BeginsElsewhere = false
 is_untried about.NotReported = false
 is_untried about.AnotherTip = false
+is_untried about.NotInFile = false
 
 -- the remark on a statement says so
 abbrev pub says_untried : Remark → Bool
@@ -81,6 +83,7 @@ says_untried Approached = false
 says_untried BeginsElsewhere = false
 says_untried NotReported = false
 says_untried AnotherTip = false
+says_untried NotInFile = false
 says_untried (Loses what) = false
 says_untried Ends = false
 
@@ -159,6 +162,7 @@ says_nothing Approached = false
 says_nothing BeginsElsewhere = false
 says_nothing NotReported = false
 says_nothing AnotherTip = false
+says_nothing NotInFile = false
 says_nothing (Loses what) = true
 says_nothing Ends = false
 

@@ -4,6 +4,7 @@ pub mod Causes
 pub mod Rows
 pub mod Telling
 pub mod Counted
+pub mod Turned
 pub mod Groups
 pub mod Spans
 pub mod Frames

@@ -3,7 +3,7 @@ use Rattle.std.specs.Prelude.{ℕ, Bool, true, false, ◌&&◌, not, nat_eq, if�
 use Rattle.vcm_remarks.specs.declared.remark.Cause.{Cause}
 use Rattle.vcm_remarks.specs.declared.remark.Cause.TheVariants.{Table, Mode, Scanning, Unit as UnitLost, Frame, Setting, Value, All}
 use Rattle.vcm_untried.specs.declared.about.About.{About}
-use Rattle.vcm_untried.specs.declared.about.About.TheVariants.{NotTried, Approached, BeginsElsewhere, NotReported, AnotherTip}
+use Rattle.vcm_untried.specs.declared.about.About.TheVariants.{NotTried, Approached, BeginsElsewhere, NotReported, AnotherTip, NotInFile}
 use Rattle.vcm_untried.specs.declared.rows.Row.{Row}
 use Rattle.vcm_untried.specs.declared.groups.Group.{Group}
 use Rattle.vcm_untried.specs.declared.frames.NamedFrame.{NamedFrame}
@@ -21,6 +21,7 @@ head_text Approached = codes "approached, not touched "
 head_text BeginsElsewhere = codes "begins elsewhere "
 head_text NotReported = codes "not reported "
 head_text AnotherTip = codes "another tip since"
+head_text NotInFile = codes "not in the probe file: "
 
 -- how often in all, which isn't told of other sensors
 abbrev pub count_text : About → ℕ → List ℕ
@@ -104,12 +105,42 @@ abbrev pub about_text : List NamedFrame → About → List ℕ
 about_text frames (NotTried cause since) = cause_text frames cause since
 about_text frames about = []
 
--- the line of a group
+-- the line of what is reported so many times
+abbrev pub line_text : List NamedFrame → List Row → About → ℕ → List ℕ
+line_text frames rows about total =
+    head_text about
+    ++ (count_text about total
+    ++ (lines_word (spans_of about rows) ++ (spans_text (spans_of about rows) ++ (about_text frames about ++ codes "\n"))))
+
+-- the sensor that a statement selects, by its name where that is known
+abbrev pub sensor_text : Option NamedFrame → List ℕ
+sensor_text None = codes "a sensor"
+sensor_text (Some f) = f.name
+
+-- that the file of probes hasn't the one of this line
+abbrev pub missing_line : Option NamedFrame → ℕ → List ℕ
+missing_line f line = codes "not in the probe file: " ++ (sensor_text f ++ (codes " line " ++ (decimal line ++ codes "\n")))
+
+-- the same, where that is what is reported of the line
+abbrev pub missing_at : List NamedFrame → ℕ → About → List ℕ
+missing_at frames line NotInFile = missing_line (frame_at frames line) line
+missing_at frames line about = []
+
+-- the same of a row
+abbrev pub missing_row : List NamedFrame → Row → List ℕ
+missing_row frames r = missing_at frames r.line r.about
+
+-- the lines of probes that the file hasn't: one for each line that selects one
+abbrev pub missing_text : List NamedFrame → List Row → List ℕ
+missing_text frames rows = flat_map (missing_row frames) rows
+
+-- the line of a group, or its lines
+abbrev pub lines_text : List NamedFrame → List Row → About → ℕ → List ℕ
+lines_text frames rows NotInFile total = missing_text frames rows
+lines_text frames rows about total = line_text frames rows about total
+
 abbrev pub group_text : List NamedFrame → List Row → Group → List ℕ
-group_text frames rows g =
-    head_text g.about
-    ++ (count_text g.about g.total
-    ++ (lines_word (spans_of g.about rows) ++ (spans_text (spans_of g.about rows) ++ (about_text frames g.about ++ codes "\n"))))
+group_text frames rows g = lines_text frames rows g.about g.total
 
 -- the lines of groups
 abbrev pub groups_text : List NamedFrame → List Row → List Group → List ℕ
@@ -163,6 +194,7 @@ mark_text Approached = codes "approached, not touched"
 mark_text BeginsElsewhere = codes "begins elsewhere"
 mark_text NotReported = codes "not reported"
 mark_text AnotherTip = codes "another tip"
+mark_text NotInFile = codes "not in the probe file"
 
 -- the same, and why
 abbrev pub about_words : List NamedFrame → About → List ℕ

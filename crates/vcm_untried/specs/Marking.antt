@@ -4,7 +4,7 @@ use Rattle.vcm_spec.specs.Workpiece.{Workpiece}
 use Rattle.vcm_code.specs.declared.code.Code.{Code}
 use Rattle.vcm_remarks.specs.declared.remark.Cause.{Cause}
 use Rattle.vcm_remarks.specs.declared.remark.Remark.{Remark}
-use Rattle.vcm_remarks.specs.declared.remark.Remark.TheVariants.{NotTried, Approached, BeginsElsewhere, NotReported, AnotherTip, Loses, Ends}
+use Rattle.vcm_remarks.specs.declared.remark.Remark.TheVariants.{NotTried, Approached, BeginsElsewhere, NotReported, AnotherTip, NotInFile, Loses, Ends}
 use Rattle.vcm_remarks.specs.declared.remark.NumberedRemark.{NumberedRemark}
 use Rattle.vcm_steps.specs.Passages.{Passage, passages}
 use Rattle.vcm_untried.specs.declared.about.About.{About}
@@ -57,6 +57,7 @@ marked_as m step number Approached line cause = record m { marks = m.marks ++ ma
 marked_as m step number BeginsElsewhere line cause = record m { marks = m.marks ++ marked step number line about.BeginsElsewhere ∷ []; begins = true }
 marked_as m step number NotReported line cause = record m { marks = m.marks ++ marked step number line about.NotReported ∷ [] }
 marked_as m step number AnotherTip line cause = record m { marks = m.marks ++ marked step number line about.AnotherTip ∷ [] }
+marked_as m step number NotInFile line cause = record m { marks = m.marks ++ marked step number line about.NotInFile ∷ [] }
 marked_as m step number (Loses what) line cause = record m { lost = lost_at m.lost what line }
 marked_as m step number Ends line cause = m
 
@@ -105,6 +106,7 @@ is_motion about.Approached = false
 is_motion about.BeginsElsewhere = false
 is_motion about.NotReported = false
 is_motion about.AnotherTip = false
+is_motion about.NotInFile = false
 
 -- as many more as a row reports that aren't tried
 abbrev pub with_motions : ℕ → Row → ℕ

@@ -8,7 +8,7 @@ use Rattle.vcm_spec.specs.Samples.Parts.{one_block}
 use Rattle.vcm_code.specs.declared.op.Op.TheVariants.{Plain}
 use Rattle.vcm_remarks.specs.declared.remark.Cause.TheVariants.{Mode, Frame}
 use Rattle.vcm_remarks.specs.declared.remark.Remark.{Remark}
-use Rattle.vcm_remarks.specs.declared.remark.Remark.TheVariants.{NotTried, BeginsElsewhere, AnotherTip, Loses, Ends}
+use Rattle.vcm_remarks.specs.declared.remark.Remark.TheVariants.{NotTried, BeginsElsewhere, AnotherTip, NotInFile, Loses, Ends}
 use Rattle.vcm_remarks.specs.declared.remark.NumberedRemark.{NumberedRemark}
 use Rattle.vcm_steps.specs.Passages.{Passage, passage}
 use Rattle.vcm_untried.specs.declared.about.About.TheVariants as about
@@ -114,3 +114,18 @@ pub tips_are_told : untried_text [] (told_of tips (step 0 no_mode ∷ step 1 no_
     ∷ [])
 unfolding digits
 tips_are_told = refl
+
+-- probes that the file hasn't, behind other tips: each line once, with the name that it selects
+abbrev missing : List NumberedRemark
+missing = remark 0 137 NotInFile ∷ remark 1 14 AnotherTip ∷ remark 2 9 NotInFile ∷ []
+
+abbrev sensors : List NamedFrame
+sensors = named 9 (codes "SA(T_2)") false ∷ named 137 (codes "S(H30)") false ∷ []
+
+pub missing_probes_are_told : untried_text sensors (told_of missing (step 0 no_mode ∷ step 1 no_mode ∷ step 0 no_mode ∷ step 2 no_mode ∷ [])) ≡ flat_map (λ t. t) (
+    codes "another tip since line 14\n"
+    ∷ codes "not in the probe file: SA(T_2) line 9\n"
+    ∷ codes "not in the probe file: S(H30) line 137\n"
+    ∷ [])
+unfolding digits
+missing_probes_are_told = refl

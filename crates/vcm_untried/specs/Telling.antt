@@ -2,7 +2,7 @@
 use Rattle.std.specs.Prelude.{ℕ, nat_eq, if◌then◌else◌, List, [], ◌∷◌, replicate, Option, Some, None}
 use Rattle.vcm_remarks.specs.declared.remark.Cause.{Cause}
 use Rattle.vcm_remarks.specs.declared.remark.Remark.{Remark}
-use Rattle.vcm_remarks.specs.declared.remark.Remark.TheVariants.{NotTried, Approached, BeginsElsewhere, NotReported, AnotherTip, Loses, Ends}
+use Rattle.vcm_remarks.specs.declared.remark.Remark.TheVariants.{NotTried, Approached, BeginsElsewhere, NotReported, AnotherTip, NotInFile, Loses, Ends}
 use Rattle.vcm_remarks.specs.declared.remark.NumberedRemark.{NumberedRemark}
 use Rattle.vcm_steps.specs.Passages.{Passage}
 use Rattle.vcm_untried.specs.declared.about.About.TheVariants as about
@@ -36,6 +36,7 @@ told_as t NotTried line cause = record t { rows = add (about.NotTried (named t.l
 told_as t Approached line cause = record t { rows = add about.Approached line t.rows }
 told_as t NotReported line cause = record t { rows = add about.NotReported line t.rows }
 told_as t AnotherTip line cause = record t { rows = add about.AnotherTip line t.rows }
+told_as t NotInFile line cause = record t { rows = add about.NotInFile line t.rows }
 told_as t BeginsElsewhere line cause = record t { rows = add about.BeginsElsewhere line t.rows }
 told_as t (Loses what) line cause = record t { lost = lost_at t.lost what line }
 told_as t Ends line cause = record t { end = first_line t.end line }

@@ -18,6 +18,8 @@ pub enum About {
     NotReported,
     /// It selects another sensor: what comes after it is tried with the tip of the part all the same.
     AnotherTip,
+    /// It selects a probe that the file of probes hasn't.
+    NotInFile,
 }
 
 /// The place of a cause.
@@ -46,6 +48,7 @@ fn rank(about: About) -> usize
         About::BeginsElsewhere => 9,
         About::NotReported => 10,
         About::AnotherTip => 11,
+        About::NotInFile => 12,
     }
 }
 
@@ -55,7 +58,8 @@ pub(crate) fn since_of(about: About) -> u32
 {
     match about {
         About::NotTried(_, since) => since,
-        About::Approached | About::BeginsElsewhere | About::NotReported | About::AnotherTip => 0,
+        About::Approached | About::BeginsElsewhere | About::NotReported => 0,
+        About::AnotherTip | About::NotInFile => 0,
     }
 }
 

@@ -31,18 +31,18 @@ pub struct Counts {
     pub told: Told,
 }
 
-// What counts: the remarks, and the one on each statement.
+/// What counts: the remarks, and the one on each statement.
 #[derive(Clone, Copy)]
-struct Counter<'a> {
-    remarks: &'a [NumberedRemark],
-    table: &'a [Option<NumberedRemark>],
+pub(crate) struct Counter<'a> {
+    pub(crate) remarks: &'a [NumberedRemark],
+    pub(crate) table: &'a [Option<NumberedRemark>],
 }
 
-// What is counted: how often each statement was carried out, and what is reported.
+/// What is counted: how often each statement was carried out, and what is reported.
 #[derive(Drop)]
-struct Progress {
-    taken: Vec<u64>,
-    told: Told,
+pub(crate) struct Progress {
+    pub(crate) taken: Vec<u64>,
+    pub(crate) told: Told,
 }
 
 /// The remark on a statement, if there is one.
@@ -55,8 +55,8 @@ pub(crate) fn remark_at(table: &[Option<NumberedRemark>], at: usize) -> Option<N
     }
 }
 
-// A statement is carried out once more.
-fn count_at(taken: &mut Vec<u64>, at: usize)
+/// A statement is carried out once more.
+pub(crate) fn count_at(taken: &mut Vec<u64>, at: usize)
     ensures { taken.new.items ≡ one_more_at taken.old.items at }
 {
     if at < taken.len() {
@@ -138,8 +138,8 @@ fn zeros(alloc: Global, count: usize) -> Result<Vec<u64>, NoMemory>
     Ok(counts)
 }
 
-// Before the first step.
-fn opening(alloc: Global, statements: usize) -> Result<Progress, NoMemory>
+/// Before the first step.
+pub(crate) fn opening(alloc: Global, statements: usize) -> Result<Progress, NoMemory>
     ensures { IfOk result (λ x. (remarks : List NumberedRemark) → IsOpening remarks statements x) }
 {
     let taken = zeros(alloc, statements)?;
@@ -160,8 +160,12 @@ fn reading(taken: &[u64], at: usize) -> u64
     }
 }
 
-// How often the statement of each remark was carried out.
-fn readings(alloc: Global, taken: &[u64], remarks: &[NumberedRemark]) -> Result<Vec<u64>, NoMemory>
+/// How often the statement of each remark was carried out.
+pub(crate) fn readings(
+    alloc: Global,
+    taken: &[u64],
+    remarks: &[NumberedRemark],
+) -> Result<Vec<u64>, NoMemory>
     ensures { IfOk result (λ x. x.items ≡ readings taken.now remarks.now) }
 {
     let mut counts = Vec::new(alloc);

@@ -6,14 +6,14 @@ ghost use Rattle.vcm_untried.specs.Frames.{frame_at};
 
 use vcm_num::Items;
 
-/// A statement that makes or recalls a frame by its name.
+/// A statement that makes or recalls a frame by its name, or selects a sensor that the file of probes hasn't.
 #[derive(Drop)]
 pub struct NamedFrame {
     /// The line of the statement.
     pub line: u32,
     /// The name, as it is told.
     pub name: Items<u8>,
-    /// Whether a frame that is given under this name is taken here.
+    /// Whether a frame that is given under this name is taken here; of a sensor none is.
     pub takes_given: bool,
 }
 

@@ -16,6 +16,7 @@ mod points;
 mod rows;
 mod spans;
 mod telling;
+mod turned;
 mod ways;
 
 pub use about::About;
@@ -30,4 +31,5 @@ pub use points::point_before;
 pub use rows::Row;
 pub use spans::Span;
 pub use telling::Told;
+pub use turned::count_turns;
 pub use ways::{behind_ways, untried_motions};

@@ -3,7 +3,7 @@
 ghost use Rattle.std.specs.Prelude.{◌≡◌, ◌++◌, decimal, IfOk, OnOk};
 ghost use Rattle.std.specs.Option.{option_copied};
 ghost use Rattle.vcm_untried.specs.Telling.{shown};
-ghost use Rattle.vcm_untried.specs.Lines.{head_text, count_text, lines_word, rest_text, span_text, spans_text, option_text, give_text, named_text, frame_text, lost_text, cause_text, given_text, since_text, about_text, group_text, groups_text, end_text, untried_text, all_tried, begun_text, current_text, way_text, mark_text, about_words};
+ghost use Rattle.vcm_untried.specs.Lines.{head_text, count_text, lines_word, rest_text, span_text, spans_text, option_text, give_text, named_text, frame_text, lost_text, cause_text, given_text, since_text, about_text, line_text, sensor_text, missing_line, missing_at, missing_text, group_text, groups_text, end_text, untried_text, all_tried, begun_text, current_text, way_text, mark_text, about_words};
 
 use crate::about::About;
 use crate::counting::Counts;
@@ -51,6 +51,7 @@ fn head_text(about: About) -> &'static [u8]
         About::BeginsElsewhere => b"begins elsewhere ",
         About::NotReported => b"not reported ",
         About::AnotherTip => b"another tip since",
+        About::NotInFile => b"not in the probe file: ",
     }
 }
 
@@ -222,7 +223,76 @@ fn put_about(out: &mut Vec<u8>, frames: &[NamedFrame], about: About) -> Result<(
     }
 }
 
-// Appends the line of a group.
+// Appends the line of what is reported so many times.
+fn put_line(
+    alloc: Global,
+    out: &mut Vec<u8>,
+    frames: &[NamedFrame],
+    rows: &[Row],
+    about: About,
+    total: u64,
+) -> Result<(), NoMemory>
+    ensures { OnOk result (out.new.items ≡ out.old.items ++ line_text frames.now rows.now about total) }
+{
+    let spans = spans_of(alloc, rows, about)?;
+    put(out, head_text(about))?;
+    put_count(out, about, total)?;
+    put(out, lines_word(spans.as_slice()))?;
+    put_spans(out, spans.as_slice())?;
+    put_about(out, frames, about)?;
+    put(out, b"\n")
+}
+
+// Appends the sensor that a statement selects, by its name where that is known.
+fn put_sensor(out: &mut Vec<u8>, named: Option<&NamedFrame>) -> Result<(), NoMemory>
+    ensures { OnOk result (out.new.items ≡ out.old.items ++ sensor_text (option_copied named.entry)) }
+{
+    match named {
+        Some(named) => put(out, named.name.as_slice()),
+        None => put(out, b"a sensor"),
+    }
+}
+
+// Appends that the file of probes hasn't the one of this line.
+fn put_missing_line(
+    out: &mut Vec<u8>,
+    named: Option<&NamedFrame>,
+    line: u32,
+) -> Result<(), NoMemory>
+    ensures { OnOk result (out.new.items ≡ out.old.items ++ missing_line (option_copied named.entry) line) }
+{
+    put(out, b"not in the probe file: ")?;
+    put_sensor(out, named)?;
+    put_before(out, b" line ", u64::from(line))?;
+    put(out, b"\n")
+}
+
+// Appends the same, where that is what is reported of the line.
+fn put_missing(
+    out: &mut Vec<u8>,
+    frames: &[NamedFrame],
+    line: u32,
+    about: About,
+) -> Result<(), NoMemory>
+    ensures { OnOk result (out.new.items ≡ out.old.items ++ missing_at frames.now line about) }
+{
+    match about {
+        About::NotInFile => put_missing_line(out, frame_at(frames, line), line),
+        _ => Ok(()),
+    }
+}
+
+// Appends the lines of probes that the file hasn't.
+fn put_all_missing(out: &mut Vec<u8>, frames: &[NamedFrame], rows: &[Row]) -> Result<(), NoMemory>
+    ensures { OnOk result (out.new.items ≡ out.old.items ++ missing_text frames.now rows.now) }
+{
+    for row in rows {
+        put_missing(out, frames, row.line, row.about)?;
+    }
+    Ok(())
+}
+
+// Appends the line of a group, or its lines.
 fn put_group(
     alloc: Global,
     out: &mut Vec<u8>,
@@ -232,13 +302,10 @@ fn put_group(
 ) -> Result<(), NoMemory>
     ensures { OnOk result (out.new.items ≡ out.old.items ++ group_text frames.now rows.now group.now) }
 {
-    let spans = spans_of(alloc, rows, group.about)?;
-    put(out, head_text(group.about))?;
-    put_count(out, group.about, group.total)?;
-    put(out, lines_word(spans.as_slice()))?;
-    put_spans(out, spans.as_slice())?;
-    put_about(out, frames, group.about)?;
-    put(out, b"\n")
+    match group.about {
+        About::NotInFile => put_all_missing(out, frames, rows),
+        about => put_line(alloc, out, frames, rows, about, group.total),
+    }
 }
 
 // Appends the lines of groups.
@@ -271,7 +338,7 @@ fn put_end(out: &mut Vec<u8>, end: Option<u32>) -> Result<(), NoMemory>
 }
 
 /// What wasn't tried in a run, in lines: one for each cause and each line since which it is so, that with the most motions first; one for what begins elsewhere;
-/// one for other sensors; one for the line from which on nothing is tried. Where all was tried there is none. These are the frames that statements of the text make
+/// one for other sensors; one for each line that selects a probe that the file of probes hasn't; one for the line from which on nothing is tried. Where all was tried there is none. These are the frames that statements of the text make
 /// or recall by their names: where one of them lost the frame, it is told by its name.
 ///
 /// Errors: want of memory.
@@ -357,6 +424,7 @@ fn mark_text(about: About) -> &'static [u8]
         About::BeginsElsewhere => b"begins elsewhere",
         About::NotReported => b"not reported",
         About::AnotherTip => b"another tip",
+        About::NotInFile => b"not in the probe file",
     }
 }
 

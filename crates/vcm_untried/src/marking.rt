@@ -98,6 +98,7 @@ fn mark_as(
         }
         Remark::NotReported => mark(to, step, remark, About::NotReported),
         Remark::AnotherTip => mark(to, step, remark, About::AnotherTip),
+        Remark::NotInFile => mark(to, step, remark, About::NotInFile),
         Remark::Loses(what) => {
             lose(&mut to.lost, what, remark.line);
             Ok(())

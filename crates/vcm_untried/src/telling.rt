@@ -51,6 +51,7 @@ pub(crate) fn tell(told: &mut Told, remark: &NumberedRemark, cause: Cause) -> Re
         Remark::BeginsElsewhere => add(&mut told.rows, About::BeginsElsewhere, line),
         Remark::NotReported => add(&mut told.rows, About::NotReported, line),
         Remark::AnotherTip => add(&mut told.rows, About::AnotherTip, line),
+        Remark::NotInFile => add(&mut told.rows, About::NotInFile, line),
         Remark::Loses(cause) => {
             lose(&mut told.lost, cause, line);
             Ok(())

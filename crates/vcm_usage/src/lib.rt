@@ -289,6 +289,7 @@ const USAGES: &[Usage] = &[
             Choice::Steps,
             Choice::Place,
             Choice::Strict,
+            Choice::Probe,
             Choice::Whole,
             Choice::Frame,
             Choice::Given,
@@ -420,6 +421,7 @@ const USAGES: &[Usage] = &[
             Choice::Close,
             Choice::Sheet,
             Choice::Stretch,
+            Choice::Probe,
             Choice::Whole,
             Choice::Frame,
             Choice::Given,
@@ -555,6 +557,7 @@ const USAGES: &[Usage] = &[
         choices: &[
             Choice::Talk,
             Choice::Quiet,
+            Choice::Probe,
             Choice::Place,
             Choice::Strict,
             Choice::Whole,

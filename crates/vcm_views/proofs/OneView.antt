@@ -42,6 +42,7 @@ use Rattle.vcm_views.specs.Views.{trace_view, points_view, margin_view, clearanc
 use Rattle.vcm_sheet.specs.Sayings.{Says}
 use Rattle.vcm_views.specs.declared.sheets.Titles.{Titles}
 use Rattle.vcm_views.specs.declared.untried.Untried.{Untried}
+use Rattle.vcm_views.specs.Readings.{run_readings}
 use Rattle.vcm_views.specs.Views.{sheet_said}
 use Rattle.vcm_views.specs.Laws.{SheetsSayOne, ViewsAreOne}
 use Rattle.vcm_views.proofs.ClearanceViews.{same_clearance}
@@ -197,11 +198,11 @@ same_reason names program part c n text other status more h k =
 same_sheet : (t : Titles) (part : Workpiece) → SheetsSayOne t part
 same_sheet t part c n text other status more h k =
     let same = one_run_to part c n h.held k.held h.ran k.ran h.run k.run h.ample k.ample in
-    let said = sheet_said t part k.held k.ran.done (way_after part c k.ran.done) in
-    let told : Says (sheet_said t part k.held h.ran.done (way_after part c h.ran.done)) text =
-    subst (λ (x : Held). Says (sheet_said t part x h.ran.done (way_after part c h.ran.done)) text) same.0 h.says in
-    let says : Says said text = subst (λ (r : Ran). Says (sheet_said t part k.held r.done (way_after part c r.done)) text) same.1 told in
-    (said, (says, k.says, h.status_is ∙ ap (λ (x : Held). status_of x.state.stop) same.0 ∙ sym k.status_is))
+    let way = λ (done : ℕ). way_after part c done in
+    let all = λ (held : Held) (done : ℕ). sheet_said t part held done (way done) (run_readings part c n (way done)) in
+    let told : Says (all k.held h.ran.done) text = subst (λ (x : Held). Says (all x h.ran.done) text) same.0 h.says in
+    let says : Says (all k.held k.ran.done) text = subst (λ (r : Ran). Says (all k.held r.done) text) same.1 told in
+    (all k.held k.ran.done, (says, k.says, h.status_is ∙ ap (λ (x : Held). status_of x.state.stop) same.0 ∙ sym k.status_is))
 
 -- ---- the views
 

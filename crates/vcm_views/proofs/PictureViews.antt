@@ -1,6 +1,6 @@
 -- The picture of a run as a view.
 use Rattle.std.specs.Prelude.{ℕ, Bool, List, Option, IfOk, IfErr, Result, Ok, Err}
-use Rattle.std.proofs.Common.{◌≡◌, refl, sym, ap, ◌∙◌, subst}
+use Rattle.std.proofs.Common.{◌≡◌, [], refl, sym, ap, ◌∙◌, subst}
 use Rattle.std.proofs.KnownBytes.{Keeps-refl}
 use Rattle.std.specs.Io.KnownBytes.{Appends}
 use Rattle.vcm_num.specs.Written.{AppendsFront}
@@ -21,11 +21,14 @@ use Rattle.vcm_marks.specs.declared.mark.PlacedMark.{PlacedMark}
 use Rattle.vcm_way.specs.Ways.{Kept}
 use Rattle.vcm_way.specs.Following.{HasFollowed}
 use Rattle.vcm_picture.specs.Picture.{sheet, picture_text}
+use Rattle.vcm_steps.specs.Passages.{passages}
+use Rattle.vcm_sheet.specs.declared.readings.Reading.{Reading}
 use Rattle.vcm_sheet.specs.Content.{content}
 use Rattle.vcm_sheet.specs.Filed.{SaidIn}
 use Rattle.vcm_sheet.specs.Sayings.{Says}
 use Rattle.vcm_views.specs.declared.sheets.Titles.{Titles}
 use Rattle.vcm_views.specs.declared.untried.Untried.{Untried}
+use Rattle.vcm_views.specs.Readings.{first_step, readings_behind, run_readings}
 use Rattle.vcm_views.specs.Untried.{lines_of, marks_with}
 use Rattle.vcm_views.specs.Views.{HasRunTo, WroteNothing, IsSheet, picture_of, filed_with, sheet_said, picture_view, sheet_view}
 use Rattle.vcm_views.specs.inner.Drawn.{IsDrawn, IsNotDrawn, IsFiled, IsNotFiled}
@@ -103,24 +106,32 @@ module _ (program : Option (List ℕ)) (notices : List Noticed) (w part : Workpi
 -- the sheet
 module _ (program : Option (List ℕ)) (notices : List Noticed) (w part : Workpiece) (same : w ≡ part) (c : Code) (n : ℕ) (held : Held) (ran : Ran) (way : Kept)
     (followed : HasFollowed w c n held ran way) (t : Titles) where
-  module _ (ample : ran.end ≡ NoMemory → ⊥) where
-    -- a text that says what such a sheet says, with the run's status
-    is_sheet : (text : List ℕ) (status : ℕ) → Says (sheet_said t part held ran.done way) text → status ≡ status_of held.state.stop
-        → IsSheet t part c n text status
-    is_sheet text status said e = record {
-      held = held;
-      ran = ran;
-      run = run_to w part same c n held ran way followed;
-      ample = ample;
-      says = subst (λ k. Says (sheet_said t part held ran.done k) text) (beside w part same c n held ran way followed).kept said;
-      status_is = e;
-    }
+  -- what its steps measured, beside the same workpiece
+  readings_are : (readings : List Reading) (from : ℕ) → from ≡ first_step way.marks → readings ≡ readings_behind from [] (passages w c n)
+      → readings ≡ run_readings part c n way
+  readings_are readings from e h = h ∙ ap (λ f. readings_behind f [] (passages w c n)) e ∙ ap (λ p. run_readings p c n way) same
 
-    filed_viewed : (status : ℕ) (old after : Option (List ℕ)) → IsFiled t part held ran.done way status old after
+  module _ (ample : ran.end ≡ NoMemory → ⊥) (readings : List Reading) (from : ℕ) (from_is : from ≡ first_step way.marks)
+      (read : readings ≡ readings_behind from [] (passages w c n)) where
+    -- a text that says what such a sheet says, with the run's status
+    is_sheet : (text : List ℕ) (status : ℕ) → Says (sheet_said t part held ran.done way readings) text → status ≡ status_of held.state.stop
+        → IsSheet t part c n text status
+    is_sheet text status said e =
+        let told : Says (sheet_said t part held ran.done way (run_readings part c n way)) text =
+        subst (λ r. Says (sheet_said t part held ran.done way r) text) (readings_are readings from from_is read) said in record {
+          held = held;
+          ran = ran;
+          run = run_to w part same c n held ran way followed;
+          ample = ample;
+          says = subst (λ k. Says (sheet_said t part held ran.done k (run_readings part c n k)) text) (beside w part same c n held ran way followed).kept told;
+          status_is = e;
+        }
+
+    filed_viewed : (status : ℕ) (old after : Option (List ℕ)) → IsFiled t part held ran.done way readings status old after
         → IsViewed (sheet_view t) program notices part c n status old after
     filed_viewed status old after d = record { text = d.sheet.text; tells = is_sheet d.sheet.text status d.sheet.says d.status_is; written = d.sheet.holds }
 
-    filed_cut_short : (f : Fault InputRefusal) (old after : Option (List ℕ)) → IsNotFiled t part held ran.done way f old after
+    filed_cut_short : (f : Fault InputRefusal) (old after : Option (List ℕ)) → IsNotFiled t part held ran.done way readings f old after
         → IsCutShort (sheet_view t) program notices part c n f old after
     filed_cut_short faults.NoMemory old after k = k
     filed_cut_short (faults.Write d) old after s = record {
@@ -134,12 +145,12 @@ module _ (program : Option (List ℕ)) (notices : List Noticed) (w part : Workpi
     filed_cut_short faults.Read old after s = absurd s
     filed_cut_short faults.TooLong old after s = absurd s
 
-    pub sheet_viewed : (r : Result ℕ (Fault InputRefusal)) (old after : Option (List ℕ)) → IfOk r (λ status. IsFiled t part held ran.done way status old after)
+    pub sheet_viewed : (r : Result ℕ (Fault InputRefusal)) (old after : Option (List ℕ)) → IfOk r (λ status. IsFiled t part held ran.done way readings status old after)
         → IfOk r (λ status. IsViewed (sheet_view t) program notices part c n status old after)
     sheet_viewed (Ok status) old after d = filed_viewed status old after d
     sheet_viewed (Err f) old after d = tt
 
-    pub sheet_cut_short : (r : Result ℕ (Fault InputRefusal)) (old after : Option (List ℕ)) → IfErr r (λ f. IsNotFiled t part held ran.done way f old after)
+    pub sheet_cut_short : (r : Result ℕ (Fault InputRefusal)) (old after : Option (List ℕ)) → IfErr r (λ f. IsNotFiled t part held ran.done way readings f old after)
         → IfErr r (λ f. IsCutShort (sheet_view t) program notices part c n f old after)
     sheet_cut_short (Ok status) old after d = tt
     sheet_cut_short (Err f) old after d = filed_cut_short f old after d
@@ -148,17 +159,17 @@ module _ (program : Option (List ℕ)) (notices : List Noticed) (w part : Workpi
   sheet_halted e old = wrote_nothing w part same c n held ran way followed e old
 
 -- what a sheet says of the marks that a way keeps
-module _ (t : Titles) (part : Workpiece) (held : Held) (done : ℕ) (way : Kept) (marks : List PlacedMark) (left_out : ℕ) (same : marks ≡ marks_with t.untried way.marks)
-    (as_many : left_out ≡ way.left_out) where
-  same_said : content (filed_with t part held done marks left_out) ≡ sheet_said t part held done way
+module _ (t : Titles) (part : Workpiece) (held : Held) (done : ℕ) (way : Kept) (marks : List PlacedMark) (left_out : ℕ) (readings : List Reading)
+    (same : marks ≡ marks_with t.untried way.marks) (as_many : left_out ≡ way.left_out) where
+  same_said : content (filed_with t part held done marks left_out readings) ≡ sheet_said t part held done way readings
   same_said =
-      ap (λ m. content (filed_with t part held done m left_out)) same ∙ ap (λ k. content (filed_with t part held done (marks_with t.untried way.marks) k)) as_many
+      ap (λ m. content (filed_with t part held done m left_out readings)) same ∙ ap (λ k. content (filed_with t part held done (marks_with t.untried way.marks) k readings)) as_many
 
-  pub said_of : (P : List ℕ → Type 0) → SaidIn (content (filed_with t part held done marks left_out)) P → SaidIn (sheet_said t part held done way) P
+  pub said_of : (P : List ℕ → Type 0) → SaidIn (content (filed_with t part held done marks left_out readings)) P → SaidIn (sheet_said t part held done way readings) P
   said_of P h = subst (λ s. SaidIn s P) same_said h
 
   pub filed_of : (status : ℕ) (stop : Option StopPlace) (old new : Option (List ℕ)) → status ≡ status_of stop → stop ≡ held.state.stop
-      → SaidIn (content (filed_with t part held done marks left_out)) (Appends old new) → IsFiled t part held done way status old new
+      → SaidIn (content (filed_with t part held done marks left_out readings)) (Appends old new) → IsFiled t part held done way readings status old new
   filed_of status stop old new e f h = record { status_is = e ∙ ap status_of f; sheet = said_of (Appends old new) h }
 
 -- what was written of the marks that a way keeps

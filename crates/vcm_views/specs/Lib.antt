@@ -1,4 +1,5 @@
 pub mod Untried
+pub mod Readings
 pub mod Views
 pub mod Laws
 pub mod inner

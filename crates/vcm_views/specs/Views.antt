@@ -24,10 +24,12 @@ use Rattle.vcm_way.specs.Ways.{Kept}
 use Rattle.vcm_way.specs.Following.{way_after}
 use Rattle.vcm_picture.specs.Picture.{sheet, picture_text}
 use Rattle.vcm_marks.specs.declared.mark.PlacedMark.{PlacedMark}
+use Rattle.vcm_sheet.specs.declared.readings.Reading.{Reading}
 use Rattle.vcm_sheet.specs.Content.{Filing, content}
 use Rattle.vcm_sheet.specs.Sayings.{Saying, Says}
 use Rattle.vcm_views.specs.declared.sheets.Titles.{Titles}
 use Rattle.vcm_views.specs.declared.untried.Untried.{Untried}
+use Rattle.vcm_views.specs.Readings.{run_readings}
 use Rattle.vcm_views.specs.Untried.{lines_of, marks_with}
 use Rattle.vcm_boxes.specs.declared.boxes.ProbeBox.{ProbeBox}
 use Rattle.vcm_way.specs.Gone.{ways_of}
@@ -100,14 +102,15 @@ IsHaltedAfter part c n done = RunEnded n (started part c) (later done (started p
 abbrev pub WroteNothing : Workpiece → Code → ℕ → ℕ → Option (List ℕ) → Option (List ℕ) → Type 0
 WroteNothing part c n done old new = IsHaltedAfter part c n done × Keeps old new
 
--- what is filed of a run that came to this state after so many steps, with these marks, before which so many pieces are left out
-abbrev pub filed_with : Titles → Workpiece → Held → ℕ → List PlacedMark → ℕ → Filing
-filed_with t part held done marks left_out = record {
+-- what is filed of a run that came to this state after so many steps, with these marks, before which so many pieces are left out, and with what its steps measured
+abbrev pub filed_with : Titles → Workpiece → Held → ℕ → List PlacedMark → ℕ → List Reading → Filing
+filed_with t part held done marks left_out readings = record {
   part = part;
   held = held;
   done = done;
   marks = marks;
   left_out = left_out;
+  readings = readings;
   is_close = t.is_close;
   lines = t.lines;
   program_name = t.program_name.now;
@@ -117,8 +120,8 @@ filed_with t part held done marks left_out = record {
 }
 
 -- what the sheet of such a run says, with what is kept of its way
-abbrev pub sheet_said : Titles → Workpiece → Held → ℕ → Kept → List Saying
-sheet_said t part held done way = content (filed_with t part held done (marks_with t.untried way.marks) way.left_out)
+abbrev pub sheet_said : Titles → Workpiece → Held → ℕ → Kept → List Reading → List Saying
+sheet_said t part held done way readings = content (filed_with t part held done (marks_with t.untried way.marks) way.left_out readings)
 
 -- a sheet of a run that memory did not cut short, with the run's exit status: what it says is said, how it is painted isn't
 pub record IsSheet (t : Titles) (part : Workpiece) (c : Code) (n : ℕ) (text : List ℕ) (status : ℕ) : Type 0 where
@@ -126,7 +129,7 @@ pub record IsSheet (t : Titles) (part : Workpiece) (c : Code) (n : ℕ) (text : 
   pub ran : Ran
   pub run : HasRunTo part c n held ran
   pub ample : ran.end ≡ NoMemory → ⊥
-  pub says : Says (sheet_said t part held ran.done (way_after part c ran.done)) text
+  pub says : Says (sheet_said t part held ran.done (way_after part c ran.done) (run_readings part c n (way_after part c ran.done))) text
   pub status_is : status ≡ status_of held.state.stop
 
 -- the result of a run that memory did not cut short, and the values of variables behind it

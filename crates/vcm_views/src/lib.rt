@@ -7,6 +7,7 @@ mod contacts;
 pub mod laws;
 mod margins;
 mod pictures;
+mod readings;
 mod reasons;
 mod sheets;
 mod traces;

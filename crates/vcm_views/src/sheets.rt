@@ -4,6 +4,7 @@ ghost use Rattle.std.specs.Prelude.{IfOk, IfErr};
 ghost use Rattle.vcm_views.specs.Views.{sheet_view};
 ghost use Rattle.vcm_views.specs.inner.Drawn.{IsFiled, IsNotFiled};
 
+use crate::readings::{first_step, readings_of};
 use crate::untried::{Untried, flagged};
 use std::alloc::Global;
 use std::io::Write;
@@ -11,7 +12,7 @@ use vcm_job::{Given, RunFault, Shows, is_halted, status_of};
 use vcm_loader::Loaded;
 use vcm_motion::AnyPart;
 use vcm_part::PartData;
-use vcm_sheet::{Lines, PictureFault, Sheet, write_sheet};
+use vcm_sheet::{Lines, PictureFault, Reading, Sheet, write_sheet};
 use vcm_state::World;
 use vcm_way::{Way, follow};
 
@@ -26,7 +27,7 @@ pub struct Titles<'a> {
     pub untried: Untried<'a>,
 }
 
-// Writes the sheet of a run that came to a state behind so many steps, and gives the exit status.
+// Writes the sheet of a run that came to a state behind so many steps, which measured this, and gives the exit status.
 fn file<W: Write>(
     alloc: Global,
     titles: &Titles<'_>,
@@ -34,10 +35,11 @@ fn file<W: Write>(
     world: &World,
     done: u64,
     way: &Way,
+    readings: &[Reading],
     writer: &mut W,
 ) -> Result<u8, RunFault>
-    ensures filed { IfOk result (λ status. IsFiled titles.now part.now world.now done way.now status (W.contents writer.old) (W.contents writer.new)) }
-    ensures fault { IfErr result (λ f. IsNotFiled titles.now part.now world.now done way.now f (W.contents writer.old) (W.contents writer.new)) }
+    ensures filed { IfOk result (λ status. IsFiled titles.now part.now world.now done way.now readings.now status (W.contents writer.old) (W.contents writer.new)) }
+    ensures fault { IfErr result (λ f. IsNotFiled titles.now part.now world.now done way.now readings.now f (W.contents writer.old) (W.contents writer.new)) }
 {
     let status = status_of(world.stop());
     let Ok(marks) = flagged(alloc, titles.untried.elsewhere, way.marks()) else {
@@ -49,6 +51,7 @@ fn file<W: Write>(
         done,
         marks: marks.as_slice(),
         left_out: way.left_out(),
+        readings,
         is_close: titles.is_close,
         lines: titles.lines,
         program_name: titles.program_name,
@@ -91,6 +94,10 @@ impl<W: Write> Shows<W> for SheetView<'_> {
         if is_halted(ran) {
             return Err(RunFault::Memory { done: ran.done });
         }
+        let from = first_step(followed.way.marks());
+        let Ok(readings) = readings_of(alloc, &*loaded, &workpiece, steps, from) else {
+            return Err(RunFault::NoMemory);
+        };
         file(
             alloc,
             &self.titles,
@@ -98,6 +105,7 @@ impl<W: Write> Shows<W> for SheetView<'_> {
             &followed.world,
             ran.done,
             &followed.way,
+            readings.as_slice(),
             writer,
         )
     }

@@ -34,7 +34,9 @@ use Rattle.vcm_whole.specs.declared.whole.Facts.{Facts}
 use Rattle.vcm_whole.specs.declared.frames.FrameLine.{FrameLine}
 use Rattle.vcm_whole.specs.Whole.{ReadsPlain, statements_of, Expands, stays, HasToBeCarried, IsPut, as_written, as_carried, is_rewritten}
 use Rattle.vcm_given.specs.declared.tips.OtherTip.{OtherTip}
+use Rattle.vcm_given.specs.declared.missing.MissingProbe.{MissingProbe}
 use Rattle.vcm_given.specs.Tips.{other_tips}
+use Rattle.vcm_given.specs.Missing.{missing_probes}
 use Rattle.vcm_whole.specs.declared.readings.Readings.{Readings}
 use Rattle.vcm_whole.specs.Readings.{readings_of}
 use Rattle.vcm_whole.specs.Losses.{lossy_lines, says_unit, says_mode, says_sensor, unlooked}
@@ -104,8 +106,8 @@ one_expansion c text u v ls ms ps qs h k =
     one_expanded (statements_of c text ms) ps qs (rw (ap (statements_of c text) e) at h.is_expanded) k.is_expanded
 
 -- what is told, by its parts
-abbrev facts_of : Lengths → Bool → List ℕ → Option (List ℕ) → List FrameLine → ℕ → (written unit mode sensor : Bool) → List OtherTip → List (List ℕ) → Readings → Facts
-facts_of u r losses unused frames n written unit mode sensor tips unlooked readings = record {
+abbrev facts_of : Lengths → Bool → List ℕ → Option (List ℕ) → List FrameLine → ℕ → (written unit mode sensor : Bool) → List OtherTip → List MissingProbe → List (List ℕ) → Readings → Facts
+facts_of u r losses unused frames n written unit mode sensor tips missing unlooked readings = record {
   lengths = u;
   is_rewritten = r;
   losses = losses;
@@ -117,6 +119,7 @@ facts_of u r losses unused frames n written unit mode sensor tips unlooked readi
   says_mode = mode;
   says_sensor = sensor;
   tips = tips;
+  missing = missing;
   unlooked = unlooked;
   readings = readings;
 }
@@ -124,23 +127,24 @@ facts_of u r losses unused frames n written unit mode sensor tips unlooked readi
 -- two that are the same in each part are the same
 same_facts : (f g : Facts) → f.lengths ≡ g.lengths → f.is_rewritten ≡ g.is_rewritten → f.losses ≡ g.losses → f.unused ≡ g.unused
     → f.frames ≡ g.frames → f.statements ≡ g.statements → f.is_as_written ≡ g.is_as_written → f.says_unit ≡ g.says_unit → f.says_mode ≡ g.says_mode
-    → f.says_sensor ≡ g.says_sensor → f.tips ≡ g.tips → f.unlooked ≡ g.unlooked → f.readings ≡ g.readings → f ≡ g
-same_facts f g u r l un fr n w su sm ss t ul re =
-    let e : facts_of f.lengths f.is_rewritten f.losses f.unused f.frames f.statements f.is_as_written f.says_unit f.says_mode f.says_sensor f.tips f.unlooked f.readings
-    ≡ facts_of g.lengths g.is_rewritten g.losses g.unused g.frames g.statements g.is_as_written g.says_unit g.says_mode g.says_sensor g.tips g.unlooked g.readings =
-    ap (λ x. facts_of x f.is_rewritten f.losses f.unused f.frames f.statements f.is_as_written f.says_unit f.says_mode f.says_sensor f.tips f.unlooked f.readings) u
-    ∙ ap (λ x. facts_of g.lengths x f.losses f.unused f.frames f.statements f.is_as_written f.says_unit f.says_mode f.says_sensor f.tips f.unlooked f.readings) r
-    ∙ ap (λ x. facts_of g.lengths g.is_rewritten x f.unused f.frames f.statements f.is_as_written f.says_unit f.says_mode f.says_sensor f.tips f.unlooked f.readings) l
-    ∙ ap (λ x. facts_of g.lengths g.is_rewritten g.losses x f.frames f.statements f.is_as_written f.says_unit f.says_mode f.says_sensor f.tips f.unlooked f.readings) un
-    ∙ ap (λ x. facts_of g.lengths g.is_rewritten g.losses g.unused x f.statements f.is_as_written f.says_unit f.says_mode f.says_sensor f.tips f.unlooked f.readings) fr
-    ∙ ap (λ x. facts_of g.lengths g.is_rewritten g.losses g.unused g.frames x f.is_as_written f.says_unit f.says_mode f.says_sensor f.tips f.unlooked f.readings) n
-    ∙ ap (λ x. facts_of g.lengths g.is_rewritten g.losses g.unused g.frames g.statements x f.says_unit f.says_mode f.says_sensor f.tips f.unlooked f.readings) w
-    ∙ ap (λ x. facts_of g.lengths g.is_rewritten g.losses g.unused g.frames g.statements g.is_as_written x f.says_mode f.says_sensor f.tips f.unlooked f.readings) su
-    ∙ ap (λ x. facts_of g.lengths g.is_rewritten g.losses g.unused g.frames g.statements g.is_as_written g.says_unit x f.says_sensor f.tips f.unlooked f.readings) sm
-    ∙ ap (λ x. facts_of g.lengths g.is_rewritten g.losses g.unused g.frames g.statements g.is_as_written g.says_unit g.says_mode x f.tips f.unlooked f.readings) ss
-    ∙ ap (λ x. facts_of g.lengths g.is_rewritten g.losses g.unused g.frames g.statements g.is_as_written g.says_unit g.says_mode g.says_sensor x f.unlooked f.readings) t
-    ∙ ap (λ x. facts_of g.lengths g.is_rewritten g.losses g.unused g.frames g.statements g.is_as_written g.says_unit g.says_mode g.says_sensor g.tips x f.readings) ul
-    ∙ ap (λ x. facts_of g.lengths g.is_rewritten g.losses g.unused g.frames g.statements g.is_as_written g.says_unit g.says_mode g.says_sensor g.tips g.unlooked x) re in
+    → f.says_sensor ≡ g.says_sensor → f.tips ≡ g.tips → f.missing ≡ g.missing → f.unlooked ≡ g.unlooked → f.readings ≡ g.readings → f ≡ g
+same_facts f g u r l un fr n w su sm ss t mi ul re =
+    let e : facts_of f.lengths f.is_rewritten f.losses f.unused f.frames f.statements f.is_as_written f.says_unit f.says_mode f.says_sensor f.tips f.missing f.unlooked f.readings
+    ≡ facts_of g.lengths g.is_rewritten g.losses g.unused g.frames g.statements g.is_as_written g.says_unit g.says_mode g.says_sensor g.tips g.missing g.unlooked g.readings =
+    ap (λ x. facts_of x f.is_rewritten f.losses f.unused f.frames f.statements f.is_as_written f.says_unit f.says_mode f.says_sensor f.tips f.missing f.unlooked f.readings) u
+    ∙ ap (λ x. facts_of g.lengths x f.losses f.unused f.frames f.statements f.is_as_written f.says_unit f.says_mode f.says_sensor f.tips f.missing f.unlooked f.readings) r
+    ∙ ap (λ x. facts_of g.lengths g.is_rewritten x f.unused f.frames f.statements f.is_as_written f.says_unit f.says_mode f.says_sensor f.tips f.missing f.unlooked f.readings) l
+    ∙ ap (λ x. facts_of g.lengths g.is_rewritten g.losses x f.frames f.statements f.is_as_written f.says_unit f.says_mode f.says_sensor f.tips f.missing f.unlooked f.readings) un
+    ∙ ap (λ x. facts_of g.lengths g.is_rewritten g.losses g.unused x f.statements f.is_as_written f.says_unit f.says_mode f.says_sensor f.tips f.missing f.unlooked f.readings) fr
+    ∙ ap (λ x. facts_of g.lengths g.is_rewritten g.losses g.unused g.frames x f.is_as_written f.says_unit f.says_mode f.says_sensor f.tips f.missing f.unlooked f.readings) n
+    ∙ ap (λ x. facts_of g.lengths g.is_rewritten g.losses g.unused g.frames g.statements x f.says_unit f.says_mode f.says_sensor f.tips f.missing f.unlooked f.readings) w
+    ∙ ap (λ x. facts_of g.lengths g.is_rewritten g.losses g.unused g.frames g.statements g.is_as_written x f.says_mode f.says_sensor f.tips f.missing f.unlooked f.readings) su
+    ∙ ap (λ x. facts_of g.lengths g.is_rewritten g.losses g.unused g.frames g.statements g.is_as_written g.says_unit x f.says_sensor f.tips f.missing f.unlooked f.readings) sm
+    ∙ ap (λ x. facts_of g.lengths g.is_rewritten g.losses g.unused g.frames g.statements g.is_as_written g.says_unit g.says_mode x f.tips f.missing f.unlooked f.readings) ss
+    ∙ ap (λ x. facts_of g.lengths g.is_rewritten g.losses g.unused g.frames g.statements g.is_as_written g.says_unit g.says_mode g.says_sensor x f.missing f.unlooked f.readings) t
+    ∙ ap (λ x. facts_of g.lengths g.is_rewritten g.losses g.unused g.frames g.statements g.is_as_written g.says_unit g.says_mode g.says_sensor g.tips x f.unlooked f.readings) mi
+    ∙ ap (λ x. facts_of g.lengths g.is_rewritten g.losses g.unused g.frames g.statements g.is_as_written g.says_unit g.says_mode g.says_sensor g.tips g.missing x f.readings) ul
+    ∙ ap (λ x. facts_of g.lengths g.is_rewritten g.losses g.unused g.frames g.statements g.is_as_written g.says_unit g.says_mode g.says_sensor g.tips g.missing g.unlooked x) re in
     e
 
 pub wholes_are_one : WholesAreOne
@@ -165,7 +169,8 @@ wholes_are_one c text bytes more ns ms rs qs facts told h k =
           (h.unit_said ∙ ap says_unit lines ∙ sym k.unit_said)
           (h.mode_said ∙ ap says_mode lines ∙ sym k.mode_said)
           (h.sensor_said ∙ ap says_sensor lines ∙ sym k.sensor_said)
-          (h.tips_are ∙ ap (other_tips c.tip) lines ∙ sym k.tips_are)
+          (h.tips_are ∙ ap (other_tips c.probes c.tip) lines ∙ sym k.tips_are)
+          (h.missing_are ∙ ap (missing_probes c.probes) lines ∙ sym k.missing_are)
           (h.unlooked_are ∙ ap unlooked lines ∙ sym k.unlooked_are)
           (h.readings_are ∙ ap (λ l. readings_of l (statements_of c text l)) lines ∙ sym k.readings_are),
     )

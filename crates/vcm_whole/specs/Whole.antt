@@ -36,6 +36,7 @@ use Rattle.vcm_given.specs.Unused.{unused}
 use Rattle.vcm_doubts.specs.Settled.{settled}
 use Rattle.vcm_whole.specs.declared.whole.Facts.{Facts}
 use Rattle.vcm_given.specs.Tips.{other_tips}
+use Rattle.vcm_given.specs.Missing.{missing_probes}
 use Rattle.vcm_whole.specs.Losses.{lossy_lines, says_unit, says_mode, says_sensor, unlooked}
 use Rattle.vcm_whole.specs.Frames.{named_frames}
 use Rattle.vcm_whole.specs.Readings.{readings_of}
@@ -92,7 +93,8 @@ pub record IsWholeBuilt (c : Choices) (text bytes : List ℕ) (notices : List No
   pub unit_said : facts.says_unit ≡ says_unit lines
   pub mode_said : facts.says_mode ≡ says_mode lines
   pub sensor_said : facts.says_sensor ≡ says_sensor lines
-  pub tips_are : facts.tips ≡ other_tips c.tip lines
+  pub tips_are : facts.tips ≡ other_tips c.probes c.tip lines
+  pub missing_are : facts.missing ≡ missing_probes c.probes lines
   pub unlooked_are : facts.unlooked ≡ unlooked lines
   pub readings_are : facts.readings ≡ readings_of lines (statements_of c text lines)
 

@@ -18,6 +18,7 @@ ghost use Rattle.vcm_said.specs.All.{said_all, refused_from};
 ghost use Rattle.vcm_given.specs.Unused.{unused};
 ghost use Rattle.vcm_whole.specs.Losses.{says_unit as unit_said, says_mode as mode_said, says_sensor as sensor_said, unlooked};
 ghost use Rattle.vcm_given.specs.Tips.{other_tips};
+ghost use Rattle.vcm_given.specs.Missing.{missing_probes};
 ghost use Rattle.vcm_given.specs.declared.choices.Choices.{Choices as Given};
 ghost use Rattle.vcm_plain.specs.declared.unit.Lengths.{Lengths as Measure};
 ghost use Rattle.vcm_plain.specs.declared.unit.Unit.TheVariants.{Millimetre};
@@ -39,7 +40,9 @@ use vcm_compared::compare;
 use vcm_datums::date;
 use vcm_doubts::settle;
 use vcm_forms::{Form, Statement};
-use vcm_given::{Choices, OtherTip, choose, first_unused, given_texts, other_tips};
+use vcm_given::{
+    Choices, MissingProbe, OtherTip, choose, first_unused, given_texts, missing_probes, other_tips,
+};
 use vcm_items::{Name, VariableName, is_variable_name};
 use vcm_kept::{Put, put_text};
 use vcm_lines::{FaultCode, Logical, SourceFault, logical_lines};
@@ -75,8 +78,10 @@ pub struct Facts {
     pub says_mode: bool,
     /// Whether it selects a sensor.
     pub says_sensor: bool,
-    /// The tips that it puts on that aren't that of the part.
+    /// The tips that it puts on that aren't that of the part, or of their probe.
     pub tips: Items<OtherTip>,
+    /// The sensors that it selects and that the file of probes hasn't.
+    pub missing: Items<MissingProbe>,
     /// The words of its statements that aren't looked at, each once.
     pub unlooked: Items<Name>,
     /// What hangs on how a machine counts and reads it, and is taken in one way.
@@ -101,6 +106,7 @@ struct Reading {
     is_rewritten: bool,
     unused: Option<Name>,
     tips: Items<OtherTip>,
+    missing: Items<MissingProbe>,
     unlooked: Items<Name>,
 }
 
@@ -301,16 +307,18 @@ fn reading_of(
     said: &[Statement],
 ) -> Result<Reading, NoMemory>
     ensures { IfOk result (λ r. (r.lengths ≡ lengths) × (r.is_rewritten ≡ is_rewritten) × (r.unused ≡ unused choices.now lines.now said.now)
-        × (r.tips ≡ other_tips choices.now.tip lines.now) × (r.unlooked ≡ unlooked lines.now)) }
+        × (r.tips ≡ other_tips choices.now.probes choices.now.tip lines.now) × (r.missing ≡ missing_probes choices.now.probes lines.now) × (r.unlooked ≡ unlooked lines.now)) }
 {
     let unused = first_unused(alloc, choices, lines, said)?;
-    let tips = other_tips(alloc, choices.tip, lines)?;
+    let tips = other_tips(alloc, choices.probes.as_slice(), choices.tip, lines)?;
+    let missing = missing_probes(alloc, choices.probes.as_slice(), lines)?;
     let unlooked = unlooked(alloc, lines)?;
     Ok(Reading {
         lengths,
         is_rewritten,
         unused,
         tips,
+        missing,
         unlooked,
     })
 }
@@ -337,6 +345,7 @@ fn whole_of(
       says_mode = mode_said lines.now;
       says_sensor = sensor_said lines.now;
       tips = reading.tips;
+      missing = reading.missing;
       unlooked = reading.unlooked;
       readings = readings;
     } }
@@ -352,6 +361,7 @@ fn whole_of(
         is_rewritten,
         unused,
         tips,
+        missing,
         unlooked,
     } = reading;
     let facts = Facts {
@@ -366,6 +376,7 @@ fn whole_of(
         says_mode: says_mode(lines),
         says_sensor: says_sensor(lines),
         tips,
+        missing,
         unlooked,
         readings,
     };
@@ -389,7 +400,7 @@ fn build_statements(
     requires shaped { refused_from false lines.now ≡ None }
     requires statements { statements.items ≡ statements_of choices.now text.now lines.now }
     ensures built { IfOk result (λ w. ReadsPlain text.now reading.lengths lines.now → reading.is_rewritten ≡ rewrites text.now reading.lengths
-        → reading.unused ≡ unused choices.now lines.now (said_all lines.now) → reading.tips ≡ other_tips choices.now.tip lines.now → reading.unlooked ≡ unlooked lines.now
+        → reading.unused ≡ unused choices.now lines.now (said_all lines.now) → reading.tips ≡ other_tips choices.now.probes choices.now.tip lines.now → reading.missing ≡ missing_probes choices.now.probes lines.now → reading.unlooked ≡ unlooked lines.now
         → IsWholeBuilt choices.now text.now w.image.items w.notices.items w.remarks.items w.facts) }
     ensures refused { IfErr result (λ r. ReadsPlain text.now reading.lengths lines.now → IsWholeRefusal choices.now text.now r) }
 {

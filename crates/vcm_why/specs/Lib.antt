@@ -1,4 +1,6 @@
 pub mod Causes
+pub mod Framed
+pub mod Hints
 pub mod Loops
 pub mod Origins
 pub mod Sources

@@ -1,5 +1,5 @@
 -- The rounds of the loops round a statement.
-use Rattle.std.specs.Prelude.{ℕ, zero, suc, ℤ, pos, nat_lt, if◌then◌else◌, List, [], ◌∷◌, ◌++◌, slice_get, unwrap_or, Option, Some, None, decimal, codes}
+use Rattle.std.specs.Prelude.{ℕ, zero, suc, pos, nat_lt, if◌then◌else◌, List, [], ◌∷◌, ◌++◌, slice_get, unwrap_or, Option, Some, None, decimal, codes}
 use Rattle.vcm_spec.specs.Setup.{Tables}
 use Rattle.vcm_spec.specs.World.{World}
 use Rattle.vcm_code.specs.Code.{Op, CodeStatement}

@@ -1,17 +1,21 @@
 -- What is told of a run.
-use Rattle.std.specs.Prelude.{ℕ, Bool, true, false, List, [], ◌∷◌, ◌++◌, Option, Some, None, decimal, codes}
+use Rattle.std.specs.Prelude.{ℕ, Bool, true, false, List, ◌++◌, Option, Some, None, codes}
 use Rattle.vcm_spec.specs.declared.stop.Stop.{Stop}
 use Rattle.vcm_spec.specs.declared.stop.Stop.TheVariants.{Ended}
 use Rattle.vcm_spec.specs.declared.stop.StopPlace.{StopPlace}
+use Rattle.vcm_spec.specs.Frame.{Frame}
 use Rattle.vcm_spec.specs.Setup.{Tables}
 use Rattle.vcm_spec.specs.Workpiece.{Workpiece}
 use Rattle.vcm_code.specs.Code.{CodeStatement}
 use Rattle.vcm_report.specs.Printed.{stopped_line, no_stop_line}
 use Rattle.vcm_naming.specs.Naming.{name_below, stop_block}
 use Rattle.vcm_state.specs.Held.{Held}
+use Rattle.vcm_cause.specs.declared.cause.Cause.{Cause}
 use Rattle.vcm_cause.specs.Behind.{Behind}
 use Rattle.vcm_cause.specs.Cause.{cause_of}
 use Rattle.vcm_why.specs.Causes.{cause_lines}
+use Rattle.vcm_why.specs.Framed.{frame_lines}
+use Rattle.vcm_why.specs.Hints.{hint_lines}
 use Rattle.vcm_why.specs.Loops.{loop_lines}
 use Rattle.vcm_why.specs.Origins.{Traced}
 use Rattle.vcm_why.specs.Sources.{origin_lines}
@@ -30,10 +34,19 @@ where_lines None ss held rounds number line =
 abbrev pub stop_front : List (List ℕ) → Tables → StopPlace → List ℕ
 stop_front names tables place = stopped_line tables place ++ name_below names (stop_block place.stop)
 
+-- whether the lines are those of a text
+abbrev pub is_of_text : Option Traced → Bool
+is_of_text (Some t) = true
+is_of_text None = false
+
+-- what is told of the motion of a stop, what would mend it, and, where lines are those of a text, the frame that it stopped in, which a statement of this line made
+abbrev pub motion_lines : Workpiece → Frame → (is_text : Bool) → (framed : ℕ) → Stop → Cause → List ℕ
+motion_lines part frame is_text framed why cause = cause_lines cause ++ (hint_lines part why cause ++ frame_lines frame is_text framed cause)
+
 -- a stop that isn't the program's end: its line with the name of its block, where its statement comes from, and what is told of its motion
 abbrev pub stop_lines : List (List ℕ) → Option Traced → Workpiece → List CodeStatement → Held → (number : ℕ) → Behind → StopPlace → List ℕ
 stop_lines names t part ss held number b place =
-    stop_front names held.tables place ++ (where_lines t ss held b.rounds number place.line ++ cause_lines (cause_of part b.marks))
+    stop_front names held.tables place ++ (where_lines t ss held b.rounds number place.line ++ motion_lines part held.state.frame (is_of_text t) b.framed place.stop (cause_of part b.marks))
 
 -- whether a stop is the program's end
 abbrev pub is_ended : Stop → Bool

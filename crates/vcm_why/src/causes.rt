@@ -114,8 +114,10 @@ fn write_beside<W: Write>(beside: Option<FreeSide>, writer: &mut W) -> Result<()
     }
 }
 
-// Writes a length in millimetres.
-fn write_length<W: Write>(length: i64, writer: &mut W) -> Result<(), WriteFault>
+/// Writes a length in millimetres.
+///
+/// Errors: the writer failed, or took no byte; then it has taken a front of the text, and not all of it.
+pub(crate) fn write_length<W: Write>(length: i64, writer: &mut W) -> Result<(), WriteFault>
     ensures { Wrote (W.contents writer.old) (W.contents writer.new) (thousandths length) result }
 {
     write_all(writer, thousandths_text(length).as_slice())

@@ -2,6 +2,8 @@
 #![tactic(auto)]
 
 mod causes;
+mod framed;
+mod hints;
 mod loops;
 mod origin;
 mod source;

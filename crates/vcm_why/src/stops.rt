@@ -3,9 +3,12 @@
 ghost use Rattle.std.specs.Prelude.{◌≡◌, ◌<◌, length};
 ghost use Rattle.vcm_num.specs.Written.{Wrote};
 ghost use Rattle.vcm_cause.specs.Watched.{seen};
-ghost use Rattle.vcm_why.specs.Reasons.{text_lines, where_lines, stop_front, stop_lines, is_ended, why_lines};
+ghost use Rattle.vcm_why.specs.Reasons.{text_lines, where_lines, stop_front, is_of_text, motion_lines, stop_lines, is_ended, why_lines};
+ghost use Rattle.vcm_cause.specs.Cause.{cause_of};
 
 use crate::causes::write_cause;
+use crate::framed::write_frame;
+use crate::hints::write_hints;
 use crate::loops::write_loops;
 use crate::origin::Origin;
 use crate::source::write_origin;
@@ -81,6 +84,34 @@ fn write_named_stop<W: Write>(
     names.write_name(stop_block(place.stop), writer)
 }
 
+// Whether lines are those of a text.
+fn is_of_text(origin: &Option<Origin<'_>>) -> bool
+    ensures { result ≡ is_of_text origin.now }
+{
+    match origin {
+        Some(_) => true,
+        None => false,
+    }
+}
+
+// Writes what is told of the motion of a stop.
+fn write_motion<W: Write>(
+    part: &PartData,
+    world: &World,
+    progress: &Progress,
+    is_text: bool,
+    stop: Stop,
+    writer: &mut W,
+) -> Result<(), WriteFault>
+    ensures { Wrote (W.contents writer.old) (W.contents writer.new)
+        (motion_lines part.now world.now.state.frame is_text (seen progress.now).framed stop (cause_of part.now (seen progress.now).marks)) result }
+{
+    let cause = cause_of(part, progress.marks.as_slice());
+    write_cause(&cause, writer)?;
+    write_hints(part, stop, &cause, writer)?;
+    write_frame(world.frame(), is_text, progress.framed, &cause, writer)
+}
+
 // Writes a stop that isn't the program's end.
 fn write_stop<W: Write>(
     origin: &Option<Origin<'_>>,
@@ -106,7 +137,8 @@ fn write_stop<W: Write>(
         place.line,
         writer,
     )?;
-    write_cause(&cause_of(part, progress.marks.as_slice()), writer)
+    let is_text = is_of_text(origin);
+    write_motion(part, world, progress, is_text, place.stop, writer)
 }
 
 /// Writes what is told of a run that came to a state with this number of the next statement after so many steps, beside blocks with these names.

@@ -1,15 +1,12 @@
 -- A run that passes, as it stands behind so many steps.
-use Rattle.std.specs.Prelude.{◌≡◌, ℕ, ◌<◌, List, [], ◌∷◌, length, Option, Some, None, slice_get, IsTrue}
-use Rattle.vcm_num.specs.Point.{is_near}
+use Rattle.std.specs.Prelude.{◌≡◌, ℕ, List, [], ◌∷◌, Option, Some, None, slice_get}
 use Rattle.vcm_spec.specs.declared.stop.Stop.{Stop}
 use Rattle.vcm_spec.specs.declared.stop.Stop.TheVariants.{Collision}
 use Rattle.vcm_spec.specs.declared.words.MovePhase.{MovePhase}
 use Rattle.vcm_spec.specs.declared.workpiece.Hit.{Hit}
 use Rattle.vcm_spec.specs.Workpiece.{Workpiece}
 use Rattle.vcm_spec.specs.World.{stopped}
-use Rattle.vcm_spec.specs.Setup.{Tables}
-use Rattle.vcm_code.specs.Code.{Op, CodeStatement}
-use Rattle.vcm_code.specs.Valid.{IsLast}
+use Rattle.vcm_code.specs.Code.{CodeStatement}
 use Rattle.vcm_code.specs.declared.code.Code.{Code}
 use Rattle.vcm_code.specs.CodeTable.{code_state}
 use Rattle.vcm_machine.specs.Running.{Running, moved}
@@ -17,7 +14,6 @@ use Rattle.vcm_way.specs.Steps.{TaskEnds}
 use Rattle.vcm_way.specs.Tasks.{task_of}
 use Rattle.vcm_contacts.specs.declared.contact.Contact.{Contact}
 use Rattle.vcm_contacts.specs.declared.contact.Lead.{Lead}
-use Rattle.vcm_contacts.specs.declared.contact.Lead.TheVariants.{On, Again, Back, Stops}
 use Rattle.vcm_contacts.specs.Leading.{lead}
 use Rattle.vcm_contacts.specs.Passing.{led, pass, passed_after}
 
@@ -42,13 +38,6 @@ pub record HasMet (old : Running) (met : Option Contact) (new : Running) : Type 
 -- the contact of a statement that is next
 abbrev pub contact_at : Running → MovePhase → Hit → CodeStatement → Contact
 contact_at m phase hit s = record { phase = phase; hit = hit; number = m.state.next; line = s.line }
-
--- a lead can be carried out behind a statement: its point is near, its feature is there, and where it goes on behind the statement, that isn't the last
-abbrev pub IsSound : Tables → Op → Lead → Type 0
-IsSound tables op (On p) = IsTrue (is_near p) × (IsLast op → ⊥)
-IsSound tables op (Again p) = IsTrue (is_near p)
-IsSound tables op (Back p i f) = IsTrue (is_near p) × ((i < length tables.features) × (IsLast op → ⊥))
-IsSound tables op (Stops why) = Unit {0}
 
 -- the machine stands at the statement that is next, and this is its motion's stop
 pub record IsStopping (m : Running) (why : Stop) (s : CodeStatement) : Type 0 where

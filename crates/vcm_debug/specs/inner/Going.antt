@@ -1,6 +1,5 @@
 -- What the parts of a session are to be, and how its machine goes on.
 use Rattle.std.specs.Prelude.{◌≡◌, ℕ, ◌<◌, ◌≤◌, ℤ, Bool, List, length, None, Result, Ok, Err}
-use Rattle.std.specs.List.{list_any}
 use Rattle.vcm_spec.specs.Workpiece.{Workpiece}
 use Rattle.vcm_code.specs.declared.code.Code.{Code}
 use Rattle.vcm_image.specs.Whole.{FitsImage}
@@ -22,10 +21,6 @@ pub record IsSession (part : Workpiece) (code : Code) (machine : Running) (count
 -- the machine of the same workpiece and code, n steps after the start
 abbrev pub begun : Running → ℕ → Running
 begun m n = later n (started m.part m.code)
-
--- a variable is watched
-abbrev pub some_watched : List Bool → Bool
-some_watched watches = list_any (λ w. w) watches
 
 -- a run of at most k steps was refused memory after `done` steps, of which none ends it
 pub record IsHaltedRun (breakpoints watches : List Bool) (k : ℕ) (old new : Running) (done : ℕ) : Type 0 where

@@ -1,28 +1,11 @@
 -- A machine that turns its head, as it stands behind so many steps.
-use Rattle.std.specs.Prelude.{◌≡◌, ℕ, suc, List, length, Option, Some, None, slice_get}
-use Rattle.vcm_spec.specs.declared.stop.Stop.{Stop}
-use Rattle.vcm_spec.specs.World.{stopped}
-use Rattle.vcm_code.specs.Code.{CodeStatement}
-use Rattle.vcm_code.specs.CodeTable.{code_state}
+use Rattle.std.specs.Prelude.{◌≡◌, ℕ, suc, List, length, Some}
 use Rattle.vcm_machine.specs.Running.{WantsMemory}
-use Rattle.vcm_turning.specs.Choosing.{probe_on, place_with}
 use Rattle.vcm_turning.specs.declared.ended.Ended.{Ended}
 use Rattle.vcm_turning.specs.declared.ended.Ended.TheVariants as end
 use Rattle.vcm_turning.specs.Turning.{Turned, turn_step}
 use Rattle.vcm_turning.specs.Steps.{TurnedStep, steps_from}
 use Rattle.vcm_turning.specs.Machine.{Turner, turned_of, carrier}
-
--- with a stop at the statement that is next
-abbrev pub halted : Turner → CodeStatement → Stop → Turner
-halted m s why = record m { state = code_state (stopped m.state.world why m.state.next s.line) m.state.next m.state.pairs }
-
--- with the probe of this place put on, if there is one
-abbrev pub with_probe : Turner → Option ℕ → Turner
-with_probe m None = m
-with_probe m (Some i) = record m {
-  state = code_state (record (m.state.world) { position = place_with m.state.world.position (probe_on m.probes m.on) (slice_get m.probes i) }) m.state.next m.state.pairs;
-  on = Some i;
-}
 
 -- its state one step later
 abbrev pub later : Turner → Turned

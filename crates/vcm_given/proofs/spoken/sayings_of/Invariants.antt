@@ -5,5 +5,5 @@ use Rattle.vcm_given.proofs.spoken.sayings_of.Given as goal
 
 abbrev pub invariant-loop-logical : goal.invariant-loop-logical
 invariant-loop-logical l = record {
-  left : spoken l.names l.angle l.lines ≡ l.out ++ flat_map (spoken_by l.names l.angle l.lines) (drop l.logical-index l.lines);
+  left : spoken l.probes l.names l.angle l.lines ≡ l.out ++ flat_map (spoken_by l.probes l.names l.angle l.lines) (drop l.logical-index l.lines);
 }

@@ -5,5 +5,5 @@ use Rattle.vcm_given.proofs.tips.other_tips.Given as goal
 
 abbrev pub invariant-loop-logical : goal.invariant-loop-logical
 invariant-loop-logical l = record {
-  left : other_tips l.tip l.lines ≡ l.out ++ flat_map (tip_by l.tip l.lines) (drop l.logical-index l.lines);
+  left : other_tips l.probes l.tip l.lines ≡ l.out ++ flat_map (tip_by l.probes l.tip l.lines) (drop l.logical-index l.lines);
 }

@@ -1,4 +1,4 @@
-use Rattle.std.proofs.Common.{ap, ◌∙◌, ◌+◌, ◌++◌, subst, arith}
+use Rattle.std.proofs.Common.{ap, ◌+◌, ◌++◌, subst, arith}
 use Rattle.vcm_num.specs.Written.{Wrote}
 use Rattle.vcm_cause.specs.Behind.{Behind}
 use Rattle.vcm_turning.specs.Choosing.{probe_on}

@@ -1,4 +1,4 @@
-use Rattle.std.proofs.Common.{refl, sym, ap, subst, ◌∙◌}
+use Rattle.std.proofs.Common.{refl, sym, ap, subst}
 use Rattle.vcm_code.specs.declared.code.Code.{Code}
 use Rattle.vcm_spec.specs.Workpiece.{Workpiece}
 use Rattle.vcm_probe_set.specs.Probes.{Probe}

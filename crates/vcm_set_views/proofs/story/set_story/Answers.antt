@@ -1,4 +1,4 @@
-use Rattle.std.proofs.Common.{◌∙◌, ap, sym, ◌++◌, ℕ, List}
+use Rattle.std.proofs.Common.{◌∙◌, ap, ◌++◌, ℕ, List}
 use Rattle.std.specs.Prelude.{flat_map}
 use Rattle.vcm_rows.specs.Opening.{opening_rows}
 use Rattle.vcm_turning.specs.Steps.{turned_marks}

@@ -3,6 +3,6 @@ use Rattle.vcm_sheet.proofs.heading.put_files.Goals as goal
 
 pub returns : goal.returns
 returns c =
-    let f : FitsSigned w64 c.from.result = search rules in
+    let f : FitsSigned w64 c.diameter.result = search rules in
     let e = simp to_z-of_z at c.put_line.ensures in
-    rw (c.deref.ensures.value, c.in_ok-program.ensures, c.deref-2.ensures.value, c.in_ok-part.ensures, c.from.ensures, c.bounds-tip.ensures.bounds) at e
+    rw (c.deref.ensures.value, c.in_ok-program.ensures, c.deref-2.ensures.value, c.in_ok-part.ensures, c.diameter.ensures, c.bounds-tip.ensures.bounds) at e

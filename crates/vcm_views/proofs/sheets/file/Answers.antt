@@ -10,7 +10,7 @@ returns-in-Ok-write_sheet-clause-filed g c =
     let way = c.args.way.now in
     let marks : c.as_slice.result.now ≡ marks_with titles.untried way.marks =
     c.as_slice.ensures.value ∙ c.in-Ok.ensures ∙ ap (flagged titles.untried.elsewhere.now) c.marks.ensures in
-    filed_of titles c.args.part.now c.args.world.now c.args.done way _ _ marks c.left_out.ensures _ _ _ _ c.status_of-status.ensures c.stop.ensures
+    filed_of titles c.args.part.now c.args.world.now c.args.done way _ _ c.args.readings.now marks c.left_out.ensures _ _ _ _ c.status_of-status.ensures c.stop.ensures
     c.in-Ok-write_sheet.ensures
 
 pub returns-clause-fault : goal.returns-clause-fault
@@ -19,5 +19,5 @@ returns-clause-fault g c =
     let way = c.args.way.now in
     let marks : c.as_slice.result.now ≡ marks_with titles.untried way.marks =
     c.as_slice.ensures.value ∙ c.in-Ok.ensures ∙ ap (flagged titles.untried.elsewhere.now) c.marks.ensures in
-    said_of titles c.args.part.now c.args.world.now c.args.done way _ _ marks c.left_out.ensures (AppendsFront _ _)
+    said_of titles c.args.part.now c.args.world.now c.args.done way _ _ c.args.readings.now marks c.left_out.ensures (AppendsFront _ _)
     (rw c.in-Err-Write.field-0-is at c.in-Err-Write.ensures)

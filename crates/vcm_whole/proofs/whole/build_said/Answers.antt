@@ -12,5 +12,5 @@ returns-clause-built c =
     let said = c.deref.ensures.value ∙ c.in-Ok.ensures in
     IfOk-weaker c.build_statements.result _ _
     (λ w h. λ read rewritten. h (subst (λ u. ReadsPlain text u lines) (sym e.0) read) (e.1 ∙ rewritten ∙ ap (is_rewritten text) (sym e.0))
-    (e.2 ∙ ap (unused c.args.choices.now lines) said) e.3 e.4)
+    (e.2 ∙ ap (unused c.args.choices.now lines) said) e.3 e.4 e.5)
     c.build_statements.ensures.built

@@ -1,6 +1,4 @@
-use Rattle.std.proofs.Common.{refl, sym, ap, ◌∙◌, rules, w64, FitsSigned, to_z-of_z}
-use Rattle.std.proofs.lemmas.Result.{err_from_is_err_and}
-use Rattle.vcm_num.proofs.KnownWrites.{front_first, front_then, wrote_then}
+use Rattle.std.proofs.Common.{rules, w64, FitsSigned, to_z-of_z}
 use Rattle.vcm_why.proofs.causes.write_free.Goals as goal
 
 pub returns-in-Some : goal.returns-in-Some

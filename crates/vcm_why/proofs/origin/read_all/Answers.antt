@@ -1,4 +1,4 @@
-use Rattle.std.proofs.Common.{List, [], refl, sym, subst}
+use Rattle.std.proofs.Common.{[], refl, sym, subst}
 use Rattle.std.proofs.lemmas.List.{append-nil, drop_all}
 use Rattle.vcm_why.specs.Origins.{AreReadAs}
 use Rattle.vcm_why.proofs.origin.read_all.Goals as goal

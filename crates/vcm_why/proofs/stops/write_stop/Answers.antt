@@ -1,7 +1,6 @@
-use Rattle.std.proofs.Common.{refl, sym, ap, ◌∙◌, rules, w64, FitsSigned, to_z-of_z}
+use Rattle.std.proofs.Common.{refl}
 use Rattle.std.proofs.lemmas.Result.{err_from_is_err_and}
 use Rattle.vcm_num.proofs.KnownWrites.{front_first, front_then, wrote_then}
-use Rattle.vcm_cause.specs.Cause.{cause_of}
 use Rattle.vcm_why.proofs.stops.write_stop.Goals as goal
 
 pub returns-in_err-write_where : goal.returns-in_err-write_where
@@ -11,5 +10,4 @@ returns-in_err-write_where g c =
 
 pub returns : goal.returns
 returns g c =
-    let cause = c.cause_of.ensures ∙ ap (cause_of c.args.part.now) c.as_slice.ensures in
-    wrote_then _ _ _ _ _ _ _ refl (rw c.tables.ensures at c.in_ok-write_named_stop.ensures) (wrote_then _ _ _ _ _ _ _ refl c.in_ok-write_where.ensures (rw cause at c.write_cause.ensures))
+    wrote_then _ _ _ _ _ _ _ refl (rw c.tables.ensures at c.in_ok-write_named_stop.ensures) (wrote_then _ _ _ _ _ _ _ refl c.in_ok-write_where.ensures (rw c.is_of_text-is_text.ensures at c.write_motion.ensures))

@@ -1,6 +1,6 @@
-use Rattle.std.proofs.Common.{refl, sym, ap, ◌∙◌, rules, w64, FitsSigned, to_z-of_z}
+use Rattle.std.proofs.Common.{refl}
 use Rattle.std.proofs.lemmas.Result.{err_from_is_err_and}
-use Rattle.vcm_num.proofs.KnownWrites.{front_first, front_then, wrote_then}
+use Rattle.vcm_num.proofs.KnownWrites.{front_first, wrote_then}
 use Rattle.vcm_why.proofs.stops.write_text.Goals as goal
 
 pub returns-in_err-write_origin : goal.returns-in_err-write_origin

@@ -4,7 +4,7 @@ use Rattle.vcm_way.specs.Steps.{TaskEnds}
 use Rattle.vcm_way.specs.Tasks.{marks_of}
 use Rattle.vcm_way.specs.Ways.{reason}
 use Rattle.vcm_way.proofs.Stepped.{step_ends, marks_are}
-use Rattle.vcm_cause.specs.Behind.{rounds_behind}
+use Rattle.vcm_cause.specs.Behind.{rounds_behind, framed_behind}
 use Rattle.vcm_cause.specs.Watched.{seen}
 use Rattle.vcm_cause.proofs.Stepping.{one_seen}
 use Rattle.vcm_cause.proofs.watching.WatcherFollowsProgress.see.Goals as goal
@@ -26,4 +26,5 @@ returns-clause-ok g c = λ w from ps looked has.
     c.marks_of_step-to.ensures ∙ ap (marks_of part b.position b.settings b.task) (c.reason.ensures ∙ ap reason c.stop-stop.ensures)
     ∙ marks_are part b s w after looked c.args._count c.args.number c.args.next in
     let rounds = c.count_round.ensures ∙ ap (rounds_behind c.args.to.now.rounds s.op c.args.number c.args.next) c.stop-stop.ensures in
-    one_seen part (seen from) ps (passage c.args._count c.args.number s w after c.args.next) _ _ (seen c.args.to.now) has marks rounds
+    let framed = c.framed_behind-to.ensures ∙ ap (framed_behind c.args.to.now.framed s.op s.line) c.stop-stop.ensures in
+    one_seen part (seen from) ps (passage c.args._count c.args.number s w after c.args.next) _ _ _ (seen c.args.to.now) has marks rounds framed

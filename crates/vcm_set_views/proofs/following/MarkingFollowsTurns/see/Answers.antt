@@ -1,6 +1,5 @@
 use Rattle.std.proofs.Common.{sym, ap, ◌∙◌, subst}
 use Rattle.vcm_way.specs.Steps.{TaskEnds}
-use Rattle.vcm_way.specs.Tasks.{marks_of}
 use Rattle.vcm_way.specs.Ways.{reason}
 use Rattle.vcm_way.proofs.Stepped.{on_ok_then}
 use Rattle.vcm_turning.specs.Choosing.{part_by}

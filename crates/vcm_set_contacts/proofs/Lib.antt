@@ -1,0 +1,4 @@
+mod Stopping
+mod Stepping
+mod Many
+mod Agreeing

@@ -1,0 +1,12 @@
+use Rattle.std.proofs.Common.{◌-◌, ◌≤◌}
+use Rattle.vcm_set_contacts.specs.inner.Standing.{HasSetPassed}
+use Rattle.vcm_set_contacts.proofs.collecting.run_on.Given as goal
+
+abbrev pub invariant-loop-done : goal.invariant-loop-done
+invariant-loop-done g l = record {
+  passed : HasSetPassed l.fn.machine.part l.fn.machine.probes l.fn.machine.variable l.loaded l.done l.machine l.contacts.items;
+  few : l.done ≤ l.steps;
+}
+
+abbrev pub decreases-loop-done : goal.decreases-loop-done
+decreases-loop-done g l = l.steps - l.done

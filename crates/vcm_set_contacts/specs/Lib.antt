@@ -1,0 +1,5 @@
+pub mod Passing
+pub mod Collecting
+pub mod Laws
+pub mod Samples
+pub mod inner

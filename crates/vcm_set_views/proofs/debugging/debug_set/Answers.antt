@@ -1,0 +1,11 @@
+use Rattle.std.proofs.Common.{◌≡◌, subst, ◌∙◌}
+use Rattle.std.specs.Prelude.{map}
+use Rattle.vcm_motion.specs.contracts.any_part.AnyPartPart.TheImpl.{part-value}
+use Rattle.vcm_turning.specs.Choosing.{tipped}
+use Rattle.vcm_set_views.specs.Fit.{Fit}
+use Rattle.vcm_set_views.proofs.debugging.debug_set.Goals as goal
+
+pub serve_beside-requires-clause-ties : goal.serve_beside-requires-clause-ties
+serve_beside-requires-clause-ties g c =
+    rw c.deref-2.ensures.value (subst (λ (f : Fit). map part-value.it c.in-Ok.parts.items ≡ map (λ p. tipped f.part p.tip) f.probes) c.fitted.view_is
+    (c.in-Ok.ensures ∙ c.deref.ensures.value ∙ c.fitted.invariant.1))
