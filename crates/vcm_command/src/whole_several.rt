@@ -201,7 +201,10 @@ fn with_zero(alloc: Global, text: &[u8]) -> Result<Vec<u8>, NoMemory> {
     let unknown: &[u8] = b"4294967296";
     let mut out = Vec::new(alloc);
     let mut rest = text;
-    while let Some((first, behind)) = rest.split_first() {
+    for _ in 0..text.len() {
+        let Some((first, behind)) = rest.split_first() else {
+            return Ok(out);
+        };
         match rest.strip_prefix(unknown) {
             Some(after) => {
                 out.push(b'0')?;
