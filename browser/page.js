@@ -256,7 +256,7 @@ class Page {
     $("to-contact").hidden = !verdict.contact;
   }
   mark({ faults, stop, why, untried, unused, notices, met, other }) {
-    const of = (which) => faults.filter((it) => it.which === which).flatMap((it) => it.lines.slice(0, 1000).map((line, i) => ({ line, message: i ? "" : it.text + (which === "program" ? "" : ": " + it.statement), word: this.wordOf(it) })));
+    const of = (which) => faults.filter((it) => it.which === which).flatMap((it) => it.lines.slice(0, 1000).map((line, i) => ({ line, message: i ? "" : it.text + (which === "program" ? it.about && ": " + it.about : ": " + it.statement), word: this.wordOf(it) })));
     const bad = of("program");
     if (stop.line && stop.word !== "ENDED") bad.push({ line: stop.line, word: why.statement, message: stop.block ? `meets ${blockText(stop.block, why.name)}` + (why.free ? `; free ${capitals(why.free)}` : "") : stop.text });
     if (other) bad.push(other);
@@ -282,12 +282,13 @@ class Page {
       const item = document.createElement("li"), button = element("button", fault.text + " ");
       button.type = "button";
       button.append(element("small", shown((fault.place || !fault.line ? "" : `line ${fault.line}: `) + fault.statement)));
+      if (fault.about) button.append(document.createElement("br"), element("small", shown(fault.about)));
       button.setAttribute("aria-current", String(buttons.length === 0));
       button.onclick = () => this.goToFault(fault, button);
       item.append(button);
       buttons.push(item);
     }
-    // of a text with faults in lines all of these are told, but what is found where lines work together is told once these are mended
+    // what may be caused by a line that can't be read is told once that is mended
     if (faults.some((it) => it.which === "program" && it.place === "line")) buttons.push(element("li", "others may follow once these are mended", "name"));
     if (faults.length > MOST_FAULTS) buttons.push(element("li", `${(faults.length - MOST_FAULTS).toLocaleString("en")} more`, "name"));
     list.replaceChildren(...buttons);

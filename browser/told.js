@@ -7,13 +7,16 @@ function shown(text) {
     .replace(/[\u007f-\u009f\u061c\u200b-\u200f\u2028-\u202e\u2060-\u2069\ufeff]/g, (c) => "[U+" + c.charCodeAt(0).toString(16).toUpperCase().padStart(4, "0") + "]");
 }
 
-// The faults that vcm tells: what it is, its line or block where it has one, and the statement that stands below it.
+// The faults that vcm tells: what it is, its line or block where it has one, the statement that stands below it, and what it is about where a second line tells that.
 function faultsOf(text) {
   const faults = [];
   for (const line of text.split("\n")) {
     const found = /^([A-Z]\d\d \w+)(?: (line|block|box|probe|swing) (\d+))?(?: box (\d+))?(?: [\w.?-]+){0,2}$/.exec(line);
-    if (found) faults.push({ text: line, code: found[1], place: found[2], number: Number(found[3]), inner: Number(found[4] || 0), statement: "" });
-    else if (line.startsWith("  ") && faults.length) faults[faults.length - 1].statement = line.trim();
+    if (found) faults.push({ text: line, code: found[1], place: found[2], number: Number(found[3]), inner: Number(found[4] || 0), statement: "", about: "", below: 0 });
+    else if (line.startsWith("  ") && faults.length) {
+      const last = faults[faults.length - 1];
+      last[last.below++ ? "about" : "statement"] = line.trim();
+    }
   }
   return faults;
 }

@@ -103,10 +103,13 @@ function turnText(run, k) {
   return now && now !== probeAt(run, k - 1) ? `; ${now.name} is on` : "";
 }
 
-// How far an actual point lies from its nominal one along its direction, in micrometres.
+// Whether two frames are the same: their origin and their axes.
+const isSameFrame = (one, other) => one.origin.join() === other.origin.join() && one.axes.join() === other.axes.join();
+
+// How far a point that a step measured lies from its nominal one along its direction, in micrometres; null where its FEAT isn't known to have been carried out in the frame of the measurement.
 function deviationOf(run, name, step) {
-  const nominal = run.nominal.get(name), actual = run.actual.get(name);
+  const nominal = run.nominal.get(name), actual = run.actual.get(name), declared = nominal ? nominal.setAt(step) : null;
   const n = nominal && nominal.at(step), a = actual && actual.at(step);
-  if (!n || !a) return null;
-  return [0, 1, 2].reduce((sum, k) => sum + (micrometres(a[k]) - micrometres(n[k])) * Number(n[3 + k]), 0);
+  if (!n || !a || declared === null || !isSameFrame(run.frame.at(declared), run.frame.at(step))) return null;
+  return [0, 1, 2].reduce((sum, k) => sum + (micrometres(a[k]) - micrometres(n[k])) * Number(a[3 + k]), 0);
 }

@@ -36,9 +36,15 @@ FILES = {
     "notices.dmi": HEAD + "MODE/PROG,MAN\nFEDRAT/POSVEL,MPM,4\nGOTO/20,20,50\nFINPOS/ON\nENDFIL\n",
     "moves.dmi": HEAD + "DECL/INTGR,I\nDO/I,1,200\nGOTO/I,20,50\nENDDO\nENDFIL\n",
     "forty.dmi": HEAD + "DECL/INTGR,I\nDO/I,1,40\nTEXT/OPER,'a line of it'\nENDDO\nENDFIL\n",
+    # features that are measured farther than the approach, along another direction, again and never; a loop without a round
+    "meant.dmi": HEAD + "DECL/INTGR,I\nF(A)=FEAT/POINT,CART,12,20,20,0,0,1\nF(B)=FEAT/POINT,CART,20,20,20,1,0,0\nF(C)=FEAT/POINT,CART,20,20,20,0,0,1\nDO/I,2,1,1\nENDDO\n"
+    "MEAS/POINT,F(A),1\nPTMEAS/CART,12,20,20\nENDMES\nMEAS/POINT,F(A),1\nPTMEAS/CART,28,20,20\nENDMES\nMEAS/POINT,F(B),1\nPTMEAS/CART,20,20,20,0,0,1\nENDMES\nENDFIL\n",
     "called.dmi": HEAD + "M(A)=MACRO/X\nDECL/LOCAL,REAL,R\nR=ASSIGN/X+1\nGOTO/R,20,50\nTEXT/OPER,'called'\nENDMAC\nCALL/M(A),20\nCALL/M(A),30\nENDFIL\n",
+    "sunk.dmi": HEAD + "DECL/INTGR,I\nM(A)=MACRO/X\nGOTO/X,20,5\nENDMAC\nDO/I,1,3\nCALL/M(A),20\nENDDO\nENDFIL\n",
     "faults.dmi": HEAD + "GOTO/20,20\nGOTO/NOWHERE,0,50\nTEXT/OPER,'open\nGOTO/1.23456,0,50\nMOVE/1\nENDFIL\n",
     "late.dmi": HEAD + "DECL/INTGR,I\nI=ASSIGN/J\nENDFIL\n",
+    # faults of names, kinds and blocks
+    "names.dmi": HEAD + "DECL/INTGR,I\nF(CIRC1)=FEAT/POINT,CART,0,0,0,0,0,1\nMEAS/POINT,F(CIRK1),1\nPTMEAS/CART,0,0,0\nENDMES\nI=ASSIGN/1.5\nDO/I,1,2\nENDFIL\n",
     # what a producer's system writes: digits to be rounded, exponents, long names, inches, a frame that only the command line gives
     "fine.dmi": "DMISMN/'FINE',05.2\nUNITS/MM,ANGDEC\nSNSET/APPRCH,2.00049\nGOTO/10.12345,20.00049,30.0\nGOTO/1.5E+1,2.0E+1,30.5E0\n"
     "F(A_VERY_LONG_NAME_OF_A_POINT)=FEAT/POINT,CART,10.00001,20.00002,20.0,0,0,1\nMEAS/POINT,F(A_VERY_LONG_NAME_OF_A_POINT),1\n"
@@ -170,6 +176,14 @@ def runs():
         yield case(f"{command} chosen.dmi notes.toml --probe heads.toml", kind="lines")
     yield case("run chosen.dmi notes.toml --probe heads.toml --show PROBE --quiet", kind="lines")
     yield case("view chosen.dmi notes.toml --probe heads.toml", kind="page")
+    for program in ("touch", "called", "sunk"):
+        yield case(f"why {program}.dmi notes.toml --probe stylus.toml", status={"called": 0}.get(program, 3))
+    for command in ("why", "contacts", "margin"):
+        yield case(f"{command} sunk.dmi notes.toml", status=3, kind="lines" if command == "contacts" else "")
+    yield case("clearance sunk.dmi notes.toml stylus.toml", status=3, kind="lines")
+    yield case("clearance called.dmi notes.toml stylus.toml", kind="lines")
+    yield case("margin called.dmi notes.toml")
+    yield case("why lost.dmi part-a.toml --whole --probe stylus.toml", status=3)
     yield case("run grid.dmi part-a.toml --probe stylus.toml", status=2)
     yield case("contacts selects.dmi notes.toml --probe heads.toml --whole", kind="lines", status=3)
     yield case("run - -", status=2)
@@ -183,6 +197,7 @@ def runs():
     yield case("picture bracket.dmi bracket.toml --close", status=3)
     yield case("picture touch.dmi part-a.toml --sheet")
     yield case("picture bracket.dmi bracket.toml --sheet --close", status=3)
+    yield case("picture bracket.dmi bracket.toml --paper a4", status=3)
     yield case("picture plate.dmi plate.toml --lines 10-20")
     yield case("view touch.dmi part-a.toml", kind="page")
     yield case("view overhang.dmi overhang.toml --probe stylus.toml", kind="page")
@@ -190,6 +205,8 @@ def runs():
     yield case("why bracket.dmi bracket.toml", status=3)
     yield case("contacts bracket.dmi bracket.toml", status=3, kind="lines")
     yield case("margin plate.dmi plate.toml")
+    yield case("points meant.dmi part-a.toml", kind="lines")
+    yield case("points meant.dmi part-a.toml --quiet", kind="lines")
     yield case("points turned.dmi low.toml", status=1)
     yield case("points turned.dmi part-a.toml --machine", kind="lines")
     yield case("run square.dmi part-a.toml --whole")
@@ -255,6 +272,8 @@ def texts():
     yield case("check faults.dmi --talk", status=1)
     yield case("check --all faults.dmi", status=1)
     yield case("check --all late.dmi", status=1)
+    yield case("check --all names.dmi", status=1)
+    yield case("check names.dmi --talk", status=1)
     yield case("check --quiet notices.dmi touch.dmi late.dmi", status=1, kind="several")
     yield case("check --talk notices.dmi called.dmi", kind="several")
     yield case("check --all faults.dmi notices.dmi", status=1, kind="several")

@@ -1,5 +1,5 @@
 -- The chain of CALLs that a statement comes from.
-use Rattle.std.specs.Prelude.{ℕ, zero, suc, ◌-◌, nat_eq, if◌then◌else◌, List, [], ◌∷◌, filter, slice_get, Option, Some, None}
+use Rattle.std.specs.Prelude.{ℕ, zero, suc, ◌-◌, nat_eq, if◌then◌else◌, List, [], ◌∷◌, filter, map, slice_get, unwrap_or, Option, Some, None}
 use Rattle.vcm_forms.specs.declared.statement.Form.{Form}
 use Rattle.vcm_forms.specs.declared.statement.Form.TheVariants.{Call}
 use Rattle.vcm_forms.specs.Statements.{is_counted}
@@ -19,6 +19,10 @@ expansion_if (Some p) = p.expansion
 abbrev pub expansion_of : List Placed → ℕ → ℕ
 expansion_of all number = expansion_if (slice_get (filter (λ p. is_counted p.statement.form) all) number)
 
+-- the expansions that the numbered statements stand in, in their order
+abbrev pub expansions : List Placed → List ℕ
+expansions all = map (λ p. p.expansion) (filter (λ p. is_counted p.statement.form) all)
+
 -- the line of a CALL if it is nested so deep, and then what is nested less deep
 abbrev pub line_then : Option Called → ℕ → (ℕ → List ℕ) → List ℕ
 line_then None depth on = on depth
@@ -37,6 +41,10 @@ depth_if (Some c) = c.depth
 -- the lines of the CALLs that an expansion comes from, the innermost first
 abbrev pub chain : List Called → (expansion : ℕ) → List ℕ
 chain calls e = chain_before calls e (depth_if (slice_get calls (e - 1)))
+
+-- those that the statement with this number comes from, by the CALLs and these expansions of statements
+abbrev pub chain_in : List Called → (numbers : List ℕ) → (number : ℕ) → List ℕ
+chain_in calls numbers number = chain calls (unwrap_or (slice_get numbers number) 0)
 
 -- those that the statement with this number comes from, in the program of these statements
 abbrev pub chain_of : List Statement → (number : ℕ) → List ℕ

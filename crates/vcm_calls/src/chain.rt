@@ -1,7 +1,10 @@
 //! The chain of CALLs that a statement comes from.
 
-ghost use Rattle.std.specs.Prelude.{◌≡◌, ◌++◌, ℕ, List, slice_get, IfOk};
-ghost use Rattle.vcm_calls.specs.Chains.{expansion_of, line_then, depth_if, chain, chain_of};
+ghost use Rattle.std.specs.Prelude.{◌≡◌, ◌++◌, ℕ, List, slice_get, unwrap_or, IfOk};
+ghost use Rattle.vcm_macro.specs.Rules.{kept};
+ghost use Rattle.vcm_macro.specs.Walk.{walk};
+ghost use Rattle.vcm_calls.specs.Carried.{carried_out};
+ghost use Rattle.vcm_calls.specs.Chains.{expansion_of, expansions, line_then, depth_if, chain, chain_of};
 
 use crate::called::Called;
 use crate::expanding::carried_out;
@@ -26,8 +29,8 @@ fn expansion_of(all: &[Placed], number: u32) -> u32
     0
 }
 
-// How deep the CALL at a place is nested.
-fn depth_at(calls: &[Called], place: usize) -> usize
+/// How deep the CALL at a place is nested, 0 where there is none.
+pub fn depth_at(calls: &[Called], place: usize) -> usize
     ensures { result ≡ depth_if (slice_get calls.now place) }
 {
     match calls.get(place) {
@@ -83,4 +86,37 @@ pub fn chain_of(
     let expansion = expansion_of(all.as_slice(), number);
     let lines = lines_of(alloc, &calls, expansion)?;
     Ok(lines)
+}
+
+/// The CALLs that a program carries out, in their order, and the expansion that each of its numbered statements stands in, 0 outside macros.
+#[derive(Drop)]
+pub struct Calls {
+    pub calls: Vec<Called>,
+    pub expansions: Vec<u32>,
+}
+
+// The expansion that each numbered statement stands in.
+fn expansions_in(alloc: Global, all: &[Placed]) -> Result<Vec<u32>, AllocError>
+    ensures { IfOk result (λ numbers. numbers.items ≡ expansions all.now) }
+{
+    let mut numbers = Vec::new(alloc);
+    for placed in all {
+        if placed.statement.form.is_counted() {
+            numbers.push(placed.expansion)?;
+        }
+    }
+    Ok(numbers)
+}
+
+/// The CALLs that a program of these statements carries out, and the expansion that each of its numbered statements stands in.
+///
+/// Errors: want of memory; a fault of the order of statements or of macros.
+pub fn calls_of(alloc: Global, statements: Vec<Statement>) -> Result<Calls, SourceFault>
+    ensures calls { IfOk result (λ c. c.calls.items ≡ carried_out statements.items) }
+    ensures expansions { IfOk result (λ c. c.expansions.items ≡ expansions (kept (walk statements.items))) }
+{
+    let calls = carried_out(alloc, &statements)?;
+    let all = expand(alloc, statements)?;
+    let expansions = expansions_in(alloc, all.as_slice())?;
+    Ok(Calls { calls, expansions })
 }

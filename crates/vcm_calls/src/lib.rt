@@ -8,6 +8,7 @@ pub mod laws;
 mod lines;
 mod macros;
 
-pub use chain::chain_of;
+pub use called::Called;
+pub use chain::{Calls, calls_of, chain_of, depth_at};
 pub use lines::source_line;
 pub use macros::macro_called;

@@ -6,7 +6,9 @@ use crate::texts::{Asked, copied, joined, number_text, put, put_all};
 use std::alloc::Global;
 use std::cell::RefCell;
 use std::fmt::Write as _;
-use vcm_command::{Request, Terminals, lines_of, matches_of, status, words_to_explain};
+use vcm_command::{
+    Request, Terminals, lines_of, matches_of, paper_given, status, words_to_explain,
+};
 use vcm_messages::Message;
 use vcm_usage::{Choice, Verb};
 
@@ -120,6 +122,15 @@ fn lines_words<'a>(lines: Option<&'a str>) -> &'a str {
     }
 }
 
+// The paper of a sheet.
+fn paper_words<'a>(paper: Option<&'a str>) -> &'a str {
+    match paper {
+        Some(text) if paper_given(paper).is_some() => text,
+        Some(_) => "refused",
+        None => "none",
+    }
+}
+
 // Words with a blank between two.
 fn spaced(alloc: Global, words: &[String]) -> String {
     words.join(alloc, " ").unwrap_or(String::new(alloc))
@@ -148,11 +159,16 @@ fn judge_asked(alloc: Global, request: &Request<'_, '_>) -> String {
 // The picture that is asked for.
 fn picture_asked(alloc: Global, request: &Request<'_, '_>) -> String {
     let lines = request.value(Choice::Stretch);
-    if request.has(Choice::Sheet) || lines.is_some() {
+    let paper = request.value(Choice::Paper);
+    if request.has(Choice::Sheet) || lines.is_some() || paper.is_some() {
         let mut name = copied(alloc, "sheet close=");
         put(&mut name, told(request.has(Choice::Close)));
         put(&mut name, " lines=");
         put(&mut name, lines_words(lines));
+        if paper.is_some() {
+            put(&mut name, " paper=");
+            put(&mut name, paper_words(paper));
+        }
         return run_asked(alloc, &[&name], request);
     }
     run_asked(

@@ -23,8 +23,8 @@ pub(crate) enum Heading {
     Plain,
     /// What a run answers, and by all other ways too.
     Run,
-    /// What is told of the stop of the program's image.
-    WhyImage,
+    /// What is told of the program's image.
+    OfImage,
     /// What stands in the page of a run between the fixed texts.
     Story,
     /// The words of the texts of the sheet of a run.
@@ -87,12 +87,15 @@ const HEADINGS: &[(&[u8], Heading)] = &[
     (b"picture", Heading::Plain),
     (b"close", Heading::Plain),
     (b"run", Heading::Run),
-    (b"why-image", Heading::WhyImage),
+    (b"why-image", Heading::OfImage),
+    (b"points-image", Heading::OfImage),
     (b"story", Heading::Story),
     (b"sheet", Heading::Sheet),
     (b"whole-story", Heading::Story),
     (b"probed-story", Heading::Story),
     (b"whole-sheet", Heading::Sheet),
+    (b"paper-a4", Heading::Sheet),
+    (b"paper-a3", Heading::Sheet),
     (b"shown", Heading::Plain),
     (b"notices", Heading::Notices),
     (b"survey", Heading::Plain),
@@ -270,6 +273,13 @@ const FRONTS: &[(&[u8], Front)] = &[
         },
     ),
     (
+        b"points-image",
+        Front {
+            words: "vcm points made t.toml",
+            rest: Rest::Steps,
+        },
+    ),
+    (
         b"story",
         Front {
             words: "vcm view t.dmi t.toml",
@@ -301,6 +311,20 @@ const FRONTS: &[(&[u8], Front)] = &[
         b"whole-sheet",
         Front {
             words: "vcm picture t.dmi t.toml --whole --sheet --close",
+            rest: Rest::Lines,
+        },
+    ),
+    (
+        b"paper-a4",
+        Front {
+            words: "vcm picture t.dmi t.toml --close --paper a4",
+            rest: Rest::Lines,
+        },
+    ),
+    (
+        b"paper-a3",
+        Front {
+            words: "vcm picture t.dmi t.toml --close --paper a3",
             rest: Rest::Lines,
         },
     ),

@@ -288,7 +288,7 @@ impl Script {
     // The file `made` that a heading asks for.
     fn made(&self, heading: Heading) -> Vec<u8> {
         match heading {
-            Heading::WhyImage => image_of(&self.texts),
+            Heading::OfImage => image_of(&self.texts),
             _ => Vec::new(self.texts.alloc),
         }
     }

@@ -1,3 +1,4 @@
 pub mod Freed
 pub mod Nearest
 pub mod Stepping
+pub mod Unmet

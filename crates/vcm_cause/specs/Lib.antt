@@ -1,4 +1,5 @@
 pub mod Ahead
+pub mod Approach
 pub mod Free
 pub mod Cause
 pub mod Behind

@@ -3,6 +3,7 @@
 #![tactic(auto)]
 
 mod ahead;
+mod approach;
 mod cause;
 mod framed;
 pub mod laws;
@@ -11,8 +12,9 @@ mod sides;
 mod watching;
 
 pub use ahead::{Ahead, block_ahead, free_length};
+pub use approach::{ApproachWay, free_approach};
 pub use cause::{Cause, Obstacle, cause_of};
 pub use framed::framed_behind;
 pub use rounds::{MOST_LOOPS, Rounds, count_round, round_of};
-pub use sides::{FreeSide, Side};
+pub use sides::{FreeSide, Side, beside, over};
 pub use watching::{Progress, Watched, before_steps, watch};

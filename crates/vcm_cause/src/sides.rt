@@ -114,7 +114,7 @@ fn nearer(
 }
 
 /// The height of the tip's centre, in micrometres, at which and over which the tip doesn't meet a block; none where that is beyond the limits.
-pub(crate) fn over(bounds: &Bounds, block: &Block3) -> Option<i64>
+pub fn over(bounds: &Bounds, block: &Block3) -> Option<i64>
     ensures { result ≡ over bounds.now block.now }
 {
     let Point([_, _, high]) = block.high;
@@ -123,7 +123,7 @@ pub(crate) fn over(bounds: &Bounds, block: &Block3) -> Option<i64>
 }
 
 /// The side of a block to which a way has to be shifted the least far, of those that lie within the limits.
-pub(crate) fn beside(bounds: &Bounds, block: &Block3, from: Point, to: Point) -> Option<FreeSide>
+pub fn beside(bounds: &Bounds, block: &Block3, from: Point, to: Point) -> Option<FreeSide>
     ensures { result ≡ beside bounds.now block.now from to }
 {
     let last = offered(bounds, block, Side::HighY);

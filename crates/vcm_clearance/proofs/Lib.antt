@@ -2,6 +2,7 @@ pub mod Answers
 pub mod Roominess
 pub mod Chains
 pub mod Existing
+pub mod Keeping
 pub mod Running
 pub mod Single
 pub mod Sizes

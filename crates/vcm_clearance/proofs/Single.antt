@@ -18,7 +18,7 @@ use Rattle.vcm_clearance.proofs.Answers.{clear_none}
 use Rattle.vcm_clearance.proofs.Roominess.{met_none, clear_less, room_few, room_clear}
 
 -- of a body that is clear on all ways nothing is told first
-none_told : (most : ℕ) (blocks body : List Block3) → AllByRecursion (IsBox most) body → list_all is_block blocks ≡ true → (ws : List PlacedWay)
+pub none_told : (most : ℕ) (blocks body : List Block3) → AllByRecursion (IsBox most) body → list_all is_block blocks ≡ true → (ws : List PlacedWay)
     → AllByRecursion (λ p. IsClearOn blocks body p.way) ws → first_told blocks body ws ≡ None
 none_told most blocks body sides all [] h = refl
 none_told most blocks body sides all (w ∷ ws) h =

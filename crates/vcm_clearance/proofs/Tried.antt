@@ -24,8 +24,11 @@ use Rattle.vcm_clearance.specs.declared.room.Room.{Room}
 use Rattle.vcm_clearance.specs.declared.room.Room.TheVariants.{Clear}
 use Rattle.vcm_clearance.specs.Contacts.{told_on, IsPlaced}
 use Rattle.vcm_clearance.specs.Rooms.{most, counted, IsRoom, AreRooms}
+use Rattle.vcm_backtrace.specs.Standing.{Past}
+use Rattle.vcm_clearance.specs.declared.here.Here.{Here}
 use Rattle.vcm_clearance.specs.Printed.{contact_line, way_lines, run_lines}
-use Rattle.vcm_clearance.specs.inner.Following.{AreTried, IsDone, AreAdded, AreCut, is_empty, opening}
+use Rattle.vcm_clearance.specs.inner.Here.{here_text}
+use Rattle.vcm_clearance.specs.inner.Following.{AreTried, IsDone, AreAdded, AreCut, IsKeptOn, is_empty, opening}
 use Rattle.vcm_clearance.proofs.Roominess.{count_more}
 
 -- ---- a box as a body of its own
@@ -56,11 +59,11 @@ set_elsewhere (x ∷ xs) (suc n) (suc i) v h = set_elsewhere xs n i v (λ e. h (
 
 -- ---- one way
 
-module _ (blocks : List Block3) (boxes : List ProbeBox) (is_first : Bool) (ws : List PlacedWay) (p : PlacedWay) where
+module _ (backtrace : List ℕ) (blocks : List Block3) (boxes : List ProbeBox) (is_first : Bool) (ws : List PlacedWay) (p : PlacedWay) where
   abbrev line : ProbeBox → List Line
-  line b = contact_line b.name (told_on blocks is_first (b.block ∷ []) p)
+  line b = contact_line b.name (told_on blocks is_first (b.block ∷ []) p) backtrace
 
-  pub begun : (rooms : List Room) (old : Page) → AreRooms blocks boxes ws rooms → AreTried blocks boxes is_first ws p 0 rooms old old
+  pub begun : (rooms : List Room) (old : Page) → AreRooms blocks boxes ws rooms → AreTried backtrace blocks boxes is_first ws p 0 rooms old old
   begun rooms old h = record {
     count = h.count;
     before = λ i b r l at stands. h.each i b r at stands;
@@ -68,7 +71,7 @@ module _ (blocks : List Block3) (boxes : List ProbeBox) (is_first : Bool) (ws : 
     written = adds_nothing old;
   }
 
-  module _ (n : ℕ) (rooms : List Room) (old mid : Page) (h : AreTried blocks boxes is_first ws p n rooms old mid) (b : ProbeBox) (at : slice_get boxes n ≡ Some b) where
+  module _ (n : ℕ) (rooms : List Room) (old mid : Page) (h : AreTried backtrace blocks boxes is_first ws p n rooms old mid) (b : ProbeBox) (at : slice_get boxes n ≡ Some b) where
     -- its room is that before the way
     pub room_before : (r : Room) → slice_get rooms n ≡ Some r → IsRoom blocks (b.block ∷ []) ws r
     room_before r stands = h.before n b r (omega arith) at stands
@@ -81,7 +84,7 @@ module _ (blocks : List Block3) (boxes : List ProbeBox) (is_first : Bool) (ws : 
 
     -- one more is tried
     pub next : (r : Room) → IsRoom blocks (b.block ∷ []) (ws ++ p ∷ []) r → (new : Page) → Adds mid new (line b)
-        → AreTried blocks boxes is_first ws p (n + 1) (slice_set rooms n r) old new
+        → AreTried backtrace blocks boxes is_first ws p (n + 1) (slice_set rooms n r) old new
     next r room new w = record {
       count = length-set rooms n r ∙ h.count;
       before = λ i c s l there stands. h.before i c s (omega arith) there (sym (set_elsewhere rooms n i r (λ e. absurd (omega (arith, e, l)))) ∙ stands);
@@ -97,7 +100,7 @@ module _ (blocks : List Block3) (boxes : List ProbeBox) (is_first : Bool) (ws : 
     }
 
     -- its line could not be written
-    pub cut : (new : Page) → AddsFront mid new (line b) → AddsFront old new (way_lines blocks boxes is_first p)
+    pub cut : (new : Page) → AddsFront mid new (line b) → AddsFront old new (way_lines backtrace blocks boxes is_first p)
     cut new f =
         let rest = flat_map line (drop (n + 1) boxes) in
         let all : flat_map line (take (n + 1) boxes) ++ rest ≡ flat_map line boxes =
@@ -105,8 +108,8 @@ module _ (blocks : List Block3) (boxes : List ProbeBox) (is_first : Bool) (ws : 
         adds_front_first old new (flat_map line (take (n + 1) boxes)) rest _ all (adds_front_then old mid new _ _ _ front_is h.written f)
 
   -- all are tried
-  pub ended : (n : ℕ) (rooms : List Room) (old new : Page) → AreTried blocks boxes is_first ws p n rooms old new → length boxes ≤ n
-      → AreRooms blocks boxes (ws ++ p ∷ []) rooms × Adds old new (way_lines blocks boxes is_first p)
+  pub ended : (n : ℕ) (rooms : List Room) (old new : Page) → AreTried backtrace blocks boxes is_first ws p n rooms old new → length boxes ≤ n
+      → AreRooms blocks boxes (ws ++ p ∷ []) rooms × Adds old new (way_lines backtrace blocks boxes is_first p)
   ended n rooms old new h all = (
     record { count = h.count; each = λ i b r at stands. h.behind i b r (let l = slice_get_within boxes i b at in omega (arith, l, all)) at stands },
     subst (Adds old new) (ap (flat_map line) (take_all n boxes all)) h.written,
@@ -139,9 +142,20 @@ first_of part ms behind m e v found P h =
     by None same = absurd same
     by (Some w) same = h w same
 
-module _ (blocks : List Block3) (boxes : List ProbeBox) (place : Moment) where
-  pub no_way : (rooms : List Room) (count : ℕ) (old : Page) → AreAdded blocks boxes place [] rooms count old rooms count old
-  no_way rooms count old ws d = (subst (λ l. IsDone blocks boxes l rooms count) (sym (append-nil ws)) d, adds_nothing old)
+-- where the code finds none, there is none
+pub none_of : (part : Workpiece) (ms behind : List Mark) (m : Mark) → ms ≡ m ∷ behind → IsSameIfAny None (first_way part ms) → ways_in part ms ≡ ways_in part behind
+none_of part ms behind m e found = ap (ways_in part) e ∙ by (first_way part (m ∷ behind)) (subst (λ l. IsSameIfAny None (first_way part l)) e found)
+  where
+    by : (o : Option Gone) → IsSameIfAny None o → option_to_list o ++ ways_in part behind ≡ ways_in part behind
+    by None same = refl
+    by (Some w) same = absurd same
+
+module _ (blocks : List Block3) (boxes : List ProbeBox) (h : Here) where
+  abbrev place : Moment
+  place = h.place
+
+  pub no_way : (rooms : List Room) (kept : List Past) (count : ℕ) (old : Page) → AreAdded h blocks boxes [] rooms kept count old rooms kept count old
+  no_way rooms kept count old ws d = (subst (λ l. IsDone blocks boxes l rooms count) (sym (append-nil ws)) d, λ from e. adds_nothing old, λ from e k. k)
 
   -- one more way was tried, and is counted
   pub one_done : (ws : List PlacedWay) (p : PlacedWay) (rooms : List Room) (count sum : ℕ) → count ≡ counted (length ws) → sum ≡ min (count + 1) most
@@ -163,34 +177,39 @@ module _ (blocks : List Block3) (boxes : List ProbeBox) (place : Moment) where
 
     -- a line of the first could not be written
     pub cut_first : (start : List Room) (old new : Page)
-        → ((ws : List PlacedWay) (p : PlacedWay) → IsPlaced place v p → AreRooms blocks boxes ws start → AddsFront old new (way_lines blocks boxes is_first p))
-        → AreCut blocks boxes place (w ∷ gs) start count old new
-    cut_first start old new one ws d =
-        adds_front_first old new (way_lines blocks boxes (is_empty ws) p) (run_lines blocks boxes false (placed_at place gs)) _ refl
-        (subst (λ b. AddsFront old new (way_lines blocks boxes b p)) (flag ws d.counted_is) (one ws p placed d.are_rooms))
+        → ((ws : List PlacedWay) (p : PlacedWay) → IsPlaced place v p → AreRooms blocks boxes ws start → AddsFront old new (way_lines (here_text h) blocks boxes is_first p))
+        → AreCut h blocks boxes (w ∷ gs) start count old new
+    cut_first start old new one ws d from e =
+        adds_front_first old new (way_lines (from place.step place.number) blocks boxes (is_empty ws) p) (run_lines from blocks boxes false (placed_at place gs)) _ refl
+        (subst (λ b. AddsFront old new (way_lines (from place.step place.number) blocks boxes b p)) (flag ws d.counted_is)
+        (subst (λ t. AddsFront old new (way_lines t blocks boxes is_first p)) (sym e) (one ws p placed d.are_rooms)))
 
-    module _ (start first : List Room) (sum : ℕ) (old mid new : Page) (s : sum ≡ min (count + 1) most)
+    module _ (start first : List Room) (kept held : List Past) (sum : ℕ) (old mid new : Page) (s : sum ≡ min (count + 1) most)
         (one : (ws : List PlacedWay) (p : PlacedWay) → IsPlaced place v p → AreRooms blocks boxes ws start
-        → AreRooms blocks boxes (ws ++ p ∷ []) first × Adds old mid (way_lines blocks boxes is_first p)) where
+        → AreRooms blocks boxes (ws ++ p ∷ []) first × Adds old mid (way_lines (here_text h) blocks boxes is_first p) × IsKeptOn h start kept first held) where
       -- the first way, and those behind it
-      pub more_ways : (last : List Room) (total : ℕ) → AreAdded blocks boxes place gs first sum mid last total new → AreAdded blocks boxes place (w ∷ gs) start count old last total new
-      more_ways last total rest ws d =
+      pub more_ways : (last : List Room) (left : List Past) (total : ℕ) → AreAdded h blocks boxes gs first held sum mid last left total new
+          → AreAdded h blocks boxes (w ∷ gs) start kept count old last left total new
+      more_ways last left total rest ws d =
           let here = one ws p placed d.are_rooms in
           let there = rest (ws ++ p ∷ []) (one_done ws p first count sum d.counted_is s here.0) in (
             subst (λ l. IsDone blocks boxes l last total) (append_assoc ws (p ∷ []) (placed_at place gs)) there.0,
-            adds_more old mid new (way_lines blocks boxes (is_empty ws) p) (run_lines blocks boxes false (placed_at place gs)) _ refl
-                (subst (λ b. Adds old mid (way_lines blocks boxes b p)) (flag ws d.counted_is) here.1)
-                (subst (λ b. Adds mid new (run_lines blocks boxes b (placed_at place gs))) (not_empty ws p) there.1),
+            λ from e. adds_more old mid new (way_lines (from place.step place.number) blocks boxes (is_empty ws) p) (run_lines from blocks boxes false (placed_at place gs)) _ refl
+                (subst (λ b. Adds old mid (way_lines (from place.step place.number) blocks boxes b p)) (flag ws d.counted_is)
+                (subst (λ t. Adds old mid (way_lines t blocks boxes is_first p)) (sym e) here.1))
+                (subst (λ b. Adds mid new (run_lines from blocks boxes b (placed_at place gs))) (not_empty ws p) (there.1 from e)),
+            λ from e k. there.2 from e (here.2 from e k),
           )
 
       -- a line of those behind it could not be written
-      pub cut_later : AreCut blocks boxes place gs first sum mid new → AreCut blocks boxes place (w ∷ gs) start count old new
-      cut_later rest ws d =
+      pub cut_later : AreCut h blocks boxes gs first sum mid new → AreCut h blocks boxes (w ∷ gs) start count old new
+      cut_later rest ws d from e =
           let here = one ws p placed d.are_rooms in
           let there = rest (ws ++ p ∷ []) (one_done ws p first count sum d.counted_is s here.0) in
-          adds_front_then old mid new (way_lines blocks boxes (is_empty ws) p) (run_lines blocks boxes false (placed_at place gs)) _ refl
-          (subst (λ b. Adds old mid (way_lines blocks boxes b p)) (flag ws d.counted_is) here.1)
-          (subst (λ b. AddsFront mid new (run_lines blocks boxes b (placed_at place gs))) (not_empty ws p) there)
+          adds_front_then old mid new (way_lines (from place.step place.number) blocks boxes (is_empty ws) p) (run_lines from blocks boxes false (placed_at place gs)) _ refl
+          (subst (λ b. Adds old mid (way_lines (from place.step place.number) blocks boxes b p)) (flag ws d.counted_is)
+          (subst (λ t. Adds old mid (way_lines t blocks boxes is_first p)) (sym e) here.1))
+          (subst (λ b. AddsFront mid new (run_lines from blocks boxes b (placed_at place gs))) (not_empty ws p) (there from e))
 
 -- ---- before the first way
 

@@ -50,19 +50,23 @@ told_text name t = met_text name t ++ where_text t
 abbrev pub contact_text : List ℕ → Told → List ℕ
 contact_text name t = codes "contact " ++ told_text name t
 
--- the line of a contact, if there is one
-abbrev pub contact_line : List ℕ → Option Told → List Line
-contact_line name None = []
-contact_line name (Some t) = about t.contact.hit.block (contact_text name t) ∷ []
+-- the line of a contact, if there is one, and below it the backtrace of its statement
+abbrev pub contact_line : List ℕ → Option Told → (backtrace : List ℕ) → List Line
+contact_line name None backtrace = []
+contact_line name (Some t) backtrace = about t.contact.hit.block (contact_text name t) ∷ plain backtrace ∷ []
 
--- the lines of a way, box by box, each as a body of its own
-abbrev pub way_lines : List Block3 → List ProbeBox → Bool → PlacedWay → List Line
-way_lines blocks boxes is_first p = flat_map (λ b. contact_line b.name (told_on blocks is_first (b.block ∷ []) p)) boxes
+-- the lines of a way, box by box, each as a body of its own; its statement comes from here
+abbrev pub way_lines : (backtrace : List ℕ) → List Block3 → List ProbeBox → Bool → PlacedWay → List Line
+way_lines backtrace blocks boxes is_first p = flat_map (λ b. contact_line b.name (told_on blocks is_first (b.block ∷ []) p) backtrace) boxes
+
+-- the backtrace of the statement of a step, in lines, by the step and the number of the statement
+abbrev pub Backtraces : Type 0
+Backtraces = (step number : ℕ) → List ℕ
 
 -- the lines of ways, of which the first is that of the run, or not
-abbrev pub run_lines : List Block3 → List ProbeBox → Bool → List PlacedWay → List Line
-run_lines blocks boxes is_first [] = []
-run_lines blocks boxes is_first (p ∷ ps) = way_lines blocks boxes is_first p ++ run_lines blocks boxes false ps
+abbrev pub run_lines : Backtraces → List Block3 → List ProbeBox → Bool → List PlacedWay → List Line
+run_lines from blocks boxes is_first [] = []
+run_lines from blocks boxes is_first (p ∷ ps) = way_lines (from p.step p.number) blocks boxes is_first p ++ run_lines from blocks boxes false ps
 
 -- how many ways there are, and behind that what is told of ways that weren't tried
 abbrev pub ways_text : List ℕ → ℕ → List ℕ
@@ -84,18 +88,18 @@ more_text g = in_a_row (codes "at " ∷ decimal (g + 1) ∷ codes " " ∷ [])
 abbrev pub narrow_text : List ℕ → ℕ → Told → List ℕ
 narrow_text name g t = more_text g ++ told_text name t
 
--- its line, if there is so much room
-abbrev pub narrow_line : List ℕ → ℕ → Option Told → List Line
-narrow_line name g None = []
-narrow_line name g (Some t) = about t.contact.hit.block (narrow_text name g t) ∷ []
+-- its line, if there is so much room, and below it the backtrace of its statement
+abbrev pub narrow_line : (Told → List ℕ) → List ℕ → ℕ → Option Told → List Line
+narrow_line from name g None = []
+narrow_line from name g (Some t) = about t.contact.hit.block (narrow_text name g t) ∷ plain (from t) ∷ []
 
 -- the lines of a box
-abbrev pub box_lines : List ℕ → Room → List Line
-box_lines name (Met k) = plain (met_line name k) ∷ []
-box_lines name (Clear g told) = plain (clear_line name g) ∷ narrow_line name g told
+abbrev pub box_lines : (Told → List ℕ) → List ℕ → Room → List Line
+box_lines from name (Met k) = plain (met_line name k) ∷ []
+box_lines from name (Clear g told) = plain (clear_line name g) ∷ narrow_line from name g told
 
--- the lines of all boxes
-abbrev pub boxes_lines : List ProbeBox → List Room → List Line
-boxes_lines [] rooms = []
-boxes_lines (b ∷ bs) [] = []
-boxes_lines (b ∷ bs) (r ∷ rs) = box_lines b.name r ++ boxes_lines bs rs
+-- the lines of boxes
+abbrev pub boxes_lines : Backtraces → List ProbeBox → List Room → List Line
+boxes_lines from [] rooms = []
+boxes_lines from (b ∷ bs) [] = []
+boxes_lines from (b ∷ bs) (r ∷ rs) = box_lines (λ t. from t.step t.number) b.name r ++ boxes_lines from bs rs

@@ -1,2 +1,3 @@
 -- What only private contracts and proofs of this crate speak of.
+pub mod Here
 pub mod Following

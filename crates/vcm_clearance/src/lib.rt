@@ -5,6 +5,7 @@
 
 mod clearing;
 mod following;
+mod here;
 pub mod laws;
 mod printing;
 mod room;
@@ -13,6 +14,7 @@ mod told;
 mod trying;
 
 pub use clearing::{Cleared, clearance};
+pub use printing::write_contact_line;
 pub use room::Room;
 pub use rooms::{next_room, told_on};
 pub use told::Told;

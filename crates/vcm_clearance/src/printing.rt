@@ -4,12 +4,15 @@ ghost use Rattle.std.specs.Prelude.{◌≡◌, [], ◌∷◌};
 ghost use Rattle.vcm_num.specs.Written.{Wrote};
 ghost use Rattle.vcm_naming.specs.Naming.{plain, about};
 ghost use Rattle.vcm_naming.specs.Pages.{page, Added};
-ghost use Rattle.vcm_clearance.specs.Printed.{going_text, position_text, place_text, hit_text, met_text, where_text, told_text, contact_text, contact_line, ways_text, met_line, clear_line, more_text, narrow_text, narrow_line, box_lines, boxes_lines};
+ghost use Rattle.vcm_clearance.specs.Printed.{going_text, position_text, place_text, hit_text, met_text, where_text, told_text, contact_text, contact_line, ways_text, met_line, clear_line, more_text, narrow_text, narrow_line, box_lines};
+ghost use Rattle.vcm_clearance.specs.inner.Here.{here_text, past_text, kept_lines};
 
+use crate::here::{Behind, Here, write_behind, write_here};
 use crate::room::Room;
 use crate::told::Told;
 use itoa::Buffer;
 use std::io::Write;
+use vcm_backtrace::Kept;
 use vcm_boxes::ProbeBox;
 use vcm_marks::Going;
 use vcm_naming::BlockNames;
@@ -90,8 +93,14 @@ fn write_told<W: Write>(name: &[u8], told: &Told, writer: &mut W) -> Result<(), 
     write_where(told, writer)
 }
 
-// Writes the text of the line of a contact.
-fn write_contact_line<W: Write>(name: &[u8], told: &Told, writer: &mut W) -> Result<(), WriteFault>
+/// Writes the text of the line of a contact of a box with this name.
+///
+/// Errors: the writer failed, or took no byte; then it has taken a front of the line, and not all of it.
+pub fn write_contact_line<W: Write>(
+    name: &[u8],
+    told: &Told,
+    writer: &mut W,
+) -> Result<(), WriteFault>
     ensures { Wrote (W.contents writer.old) (W.contents writer.new) (contact_text name.now told.now) result }
 {
     write_all(writer, b"contact ")?;
@@ -111,20 +120,36 @@ fn write_named_contact<W: Write>(
     names.write_once(Some(told.contact.hit.block), writer)
 }
 
-/// Writes the line of a contact of a box with this name, if there is one, and the name of its block, if it is left.
+// The same, and below it the backtrace of its statement.
+fn write_whole_contact<W: Write>(
+    name: &[u8],
+    told: &Told,
+    here: &Here<'_>,
+    names: &mut BlockNames,
+    writer: &mut W,
+) -> Result<(), WriteFault>
+    ensures { Added (page (W.contents writer.old) names.old) (page (W.contents writer.new) names.new)
+        (about told.now.contact.hit.block (contact_text name.now told.now) ∷ plain (here_text here.now) ∷ []) result }
+{
+    write_named_contact(name, told, names, writer)?;
+    write_here(here, writer)
+}
+
+/// Writes the line of a contact of a box with this name, if there is one, the name of its block, if it is left, and the backtrace of its statement.
 ///
 /// Errors: the writer failed, or took no byte; then it has taken a front of that, and not all of it.
 pub(crate) fn write_contact<W: Write>(
     name: &[u8],
     told: Option<Told>,
+    here: &Here<'_>,
     names: &mut BlockNames,
     writer: &mut W,
 ) -> Result<(), WriteFault>
-    ensures { Added (page (W.contents writer.old) names.old) (page (W.contents writer.new) names.new) (contact_line name.now told) result }
+    ensures { Added (page (W.contents writer.old) names.old) (page (W.contents writer.new) names.new) (contact_line name.now told (here_text here.now)) result }
 {
     match told {
         None => Ok(()),
-        Some(told) => write_named_contact(name, &told, names, writer),
+        Some(told) => write_whole_contact(name, &told, here, names, writer),
     }
 }
 
@@ -197,19 +222,40 @@ fn write_named_narrow<W: Write>(
     names.write_once(Some(told.contact.hit.block), writer)
 }
 
+// The same, and below it the backtrace of its statement.
+fn write_whole_narrow<W: Write>(
+    name: &[u8],
+    by: u32,
+    told: &Told,
+    kept: &Kept,
+    behind: &Behind<'_>,
+    names: &mut BlockNames,
+    writer: &mut W,
+) -> Result<(), WriteFault>
+    ensures { Added (page (W.contents writer.old) names.old) (page (W.contents writer.new) names.new)
+        (about told.now.contact.hit.block (narrow_text name.now by told.now)
+        ∷ plain (past_text behind.now.source.now behind.now.loaded.now.statements behind.now.tables.now kept.now told.now.number) ∷ []) result }
+{
+    write_named_narrow(name, by, told, names, writer)?;
+    write_behind(behind, kept, told.number, writer)
+}
+
 // The same, if it meets a block.
 fn write_narrow<W: Write>(
     name: &[u8],
     by: u32,
     told: Option<Told>,
+    kept: &Kept,
+    behind: &Behind<'_>,
     names: &mut BlockNames,
     writer: &mut W,
 ) -> Result<(), WriteFault>
-    ensures { Added (page (W.contents writer.old) names.old) (page (W.contents writer.new) names.new) (narrow_line name.now by told) result }
+    ensures { Added (page (W.contents writer.old) names.old) (page (W.contents writer.new) names.new)
+        (narrow_line (λ t. past_text behind.now.source.now behind.now.loaded.now.statements behind.now.tables.now kept.now t.number) name.now by told) result }
 {
     match told {
         None => Ok(()),
-        Some(told) => write_named_narrow(name, by, &told, names, writer),
+        Some(told) => write_whole_narrow(name, by, &told, kept, behind, names, writer),
     }
 }
 
@@ -218,49 +264,62 @@ fn write_clear<W: Write>(
     name: &[u8],
     by: u32,
     told: Option<Told>,
+    kept: &Kept,
+    behind: &Behind<'_>,
     names: &mut BlockNames,
     writer: &mut W,
 ) -> Result<(), WriteFault>
-    ensures { Added (page (W.contents writer.old) names.old) (page (W.contents writer.new) names.new) (plain (clear_line name.now by) ∷ narrow_line name.now by told) result }
+    ensures { Added (page (W.contents writer.old) names.old) (page (W.contents writer.new) names.new) (plain (clear_line name.now by)
+        ∷ narrow_line (λ t. past_text behind.now.source.now behind.now.loaded.now.statements behind.now.tables.now kept.now t.number) name.now by told) result }
 {
     write_clear_line(name, by, writer)?;
-    write_narrow(name, by, told, names, writer)
+    write_narrow(name, by, told, kept, behind, names, writer)
 }
 
 // Writes the lines of a box.
 fn write_box<W: Write>(
     name: &[u8],
     room: Room,
+    kept: &Kept,
+    behind: &Behind<'_>,
     names: &mut BlockNames,
     writer: &mut W,
 ) -> Result<(), WriteFault>
-    ensures { Added (page (W.contents writer.old) names.old) (page (W.contents writer.new) names.new) (box_lines name.now room) result }
+    ensures { Added (page (W.contents writer.old) names.old) (page (W.contents writer.new) names.new)
+        (box_lines (λ t. past_text behind.now.source.now behind.now.loaded.now.statements behind.now.tables.now kept.now t.number) name.now room) result }
 {
     match room {
         Room::Met(count) => write_met_line(name, count, writer),
-        Room::Clear(by, told) => write_clear(name, by, told, names, writer),
+        Room::Clear(by, told) => write_clear(name, by, told, kept, behind, names, writer),
     }
 }
 
-/// Writes the lines of boxes with their rooms, and the names of blocks that are left.
+/// Writes the lines of boxes with their rooms, and the names of blocks that are left, by what is kept of the narrowest place round each.
 ///
 /// Errors: the writer failed, or took no byte; then it has taken a front of the lines, and not all of them.
 pub(crate) fn write_boxes<W: Write>(
     boxes: &[ProbeBox],
     rooms: &[Room],
+    kept: &[Kept],
+    behind: &Behind<'_>,
     names: &mut BlockNames,
     writer: &mut W,
 ) -> Result<(), WriteFault>
-    ensures { Added (page (W.contents writer.old) names.old) (page (W.contents writer.new) names.new) (boxes_lines boxes.now rooms.now) result }
+    ensures { Added (page (W.contents writer.old) names.old) (page (W.contents writer.new) names.new)
+        (kept_lines (past_text behind.now.source.now behind.now.loaded.now.statements behind.now.tables.now) boxes.now rooms.now kept.now) result }
 {
-    match boxes.split_first() {
-        None => Ok(()),
-        Some((first, boxes)) => match rooms.split_first() {
-            None => Ok(()),
-            Some((room, rooms)) => match write_box(first.name.as_bytes(), *room, names, writer) {
-                Ok(()) => write_boxes(boxes, rooms, names, writer),
-                Err(fault) => Err(fault),
-            },
-        },
+    let Some((first, boxes)) = boxes.split_first() else {
+        return Ok(());
+    };
+    let Some((room, rooms)) = rooms.split_first() else {
+        return Ok(());
+    };
+    let Some((past, kept)) = kept.split_first() else {
+        return Ok(());
+    };
+    let name = first.name.as_bytes();
+    match write_box(name, *room, past, behind, names, writer) {
+        Ok(()) => write_boxes(boxes, rooms, kept, behind, names, writer),
+        Err(fault) => Err(fault),
     }
 }

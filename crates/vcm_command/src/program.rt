@@ -1,16 +1,5 @@
 //! The program: its words are read, and the command is carried out on the standard devices and files.
 
-use crate::blocks::blocks_file;
-use crate::checks::check_programs;
-use crate::choices::says_of_whole;
-use crate::dap::serve_editor;
-use crate::explaining::explain;
-use crate::hardware::probe_file;
-use crate::judge::judge_programs;
-use crate::off_place::show_places;
-use crate::producing::{adapt_file, survey_file};
-use crate::several::{probe_named, show_probed};
-use crate::whole::show_whole;
 use clap::Error;
 use clap::error::ErrorKind;
 use std::io;
@@ -21,7 +10,11 @@ use vcm_devices::{
     show_view, voice_of,
 };
 use vcm_messages::Message;
+use vcm_prepare::{adapt_file, blocks_file, explain, probe_file, survey_file};
+use vcm_set_commands::{probe_named, show_probed, show_whole};
+use vcm_trials::{check_programs, judge_programs, serve_editor, show_places};
 use vcm_usage::{Choice, Rest, Verb};
+use vcm_whole_runs::says_of_whole;
 
 // Answers a request for help or the version on standard output, tells a wrong command line on standard error, and gives the exit status.
 fn tell_usage<R: Print + Eprint>(rt: &R, error: &Error) -> u8 {

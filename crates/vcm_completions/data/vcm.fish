@@ -205,6 +205,7 @@ complete -c vcm -n '__fish_seen_subcommand_from picture' -l strict -d 'refuse ke
 complete -c vcm -n '__fish_seen_subcommand_from picture' -l close -d 'show the blocks large'
 complete -c vcm -n '__fish_seen_subcommand_from picture' -l sheet -d 'draw a sheet to be filed'
 complete -c vcm -n '__fish_seen_subcommand_from picture' -l lines -x -d 'the source lines of the way'
+complete -c vcm -n '__fish_seen_subcommand_from picture' -l paper -x -d 'the paper of the sheet'
 complete -c vcm -n '__fish_seen_subcommand_from picture' -l probe -r -d 'the probe, or several'
 complete -c vcm -n '__fish_seen_subcommand_from picture' -l whole -d 'a producer'\''s text as it stands'
 complete -c vcm -n '__fish_seen_subcommand_from picture' -l frame -x -d 'where a frame lies'

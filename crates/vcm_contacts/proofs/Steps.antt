@@ -1,5 +1,7 @@
 -- A step that goes on behind a contact.
-use Rattle.std.proofs.Common.{◌≡◌, ℕ, zero, suc, ◌+◌, ◌-◌, ◌≤◌, List, [], ◌∷◌, ◌++◌, slice_get, Option, Some, None, Ok, Err, refl, sym, ap, ◌∙◌, subst, arith}
+use Rattle.std.proofs.Common.{◌≡◌, ℕ, zero, suc, ◌+◌, ◌-◌, ◌<◌, ◌≤◌, true, List, [], ◌∷◌, ◌++◌, slice_get, Option, Some, None, Ok, Err, refl, sym, ap, ◌∙◌, subst, arith}
+use Rattle.std.specs.Prelude.{map, replicate, option_to_list}
+use Rattle.std.proofs.lemmas.List.{append-nil, map-append}
 use Rattle.vcm_spec.specs.declared.stop.Stop.{Stop}
 use Rattle.vcm_spec.specs.declared.stop.Stop.TheVariants.{Collision}
 use Rattle.vcm_spec.specs.declared.stop.StopPlace.{StopPlace}
@@ -12,7 +14,7 @@ use Rattle.vcm_state.specs.Held.{Held}
 use Rattle.vcm_code.specs.declared.pair.Pair.{Pair}
 use Rattle.vcm_code.specs.declared.code.Code.{Code}
 use Rattle.vcm_code.specs.Code.{CodeStatement}
-use Rattle.vcm_code.specs.CodeTable.{CodeState, code_state, code_step, do_op}
+use Rattle.vcm_code.specs.CodeTable.{CodeState, code_state, code_step, do_op, next_prints}
 use Rattle.vcm_machine.specs.Going.{HasGone}
 use Rattle.vcm_machine.specs.Running.{Running, started}
 use Rattle.vcm_machine.specs.inner.Runnable.{IsRunnable}
@@ -22,9 +24,14 @@ use Rattle.vcm_way.specs.Tasks.{task_of}
 use Rattle.vcm_way.specs.Ways.{reason}
 use Rattle.vcm_way.proofs.Sent.{task_ends}
 use Rattle.vcm_contacts.specs.declared.contact.Contact.{Contact}
-use Rattle.vcm_contacts.specs.Collecting.{AreContacts}
+use Rattle.vcm_steps.specs.declared.fault.Unfinished.{Unfinished}
+use Rattle.vcm_steps.specs.declared.fault.Unfinished.TheVariants.{NoMemory, Memory, Write}
+use Rattle.vcm_contacts.specs.Collecting.{AreContacts, AreNoContacts}
 use Rattle.vcm_contacts.specs.Passing.{Passed, passed_by, passed_at, pass, pass_on, passed_after}
-use Rattle.vcm_contacts.specs.inner.Standing.{HasPassed, listed, HasMet, contact_at, IsLed}
+use Rattle.vcm_backtrace.specs.Sources.{Sourced}
+use Rattle.vcm_contacts.specs.Laws.{FoundAreTheContacts}
+use Rattle.vcm_contacts.specs.Noted.{Found, rounds_at, rounds_on, rounds_passed, found_at, found_on, found_after}
+use Rattle.vcm_contacts.specs.inner.Standing.{HasPassed, HasGoneOn, IsRefusedHere, HasMet, contact_at, IsLed}
 
 -- the machine of these
 abbrev pub running : Workpiece → Code → CodeState → Running
@@ -59,13 +66,13 @@ module _ (part : Workpiece) (code : Code) (m : CodeState) (s : CodeStatement) (n
       code_is = ap (λ (r : Running). r.code) h.1;
       passed = pass_is _ (ap (λ (x : CodeState). reason x.world.stop) e)
           ∙ ap (λ (r : Running). told r.state (contact_at (running part code m) phase hit s ∷ [])) (sym h.1)
-          ∙ ap (λ (o : Option Contact). told new.state (listed o)) (sym h.0);
+          ∙ ap (λ (o : Option Contact). told new.state (option_to_list o)) (sym h.0);
     }
     led_behind _ e h = record {
       part_is = ap (λ (r : Running). r.part) h.1;
       code_is = ap (λ (r : Running). r.code) h.1;
       passed = pass_is _ (ap (λ (x : CodeState). reason x.world.stop) e) ∙ ap (λ (x : CodeState). told x []) (e ∙ sym (ap (λ (r : Running). r.state) h.1))
-          ∙ ap (λ (o : Option Contact). told new.state (listed o)) (sym h.0);
+          ∙ ap (λ (o : Option Contact). told new.state (option_to_list o)) (sym h.0);
     }
 
 -- what carrying out a statement did
@@ -102,48 +109,118 @@ module _ (part : Workpiece) (code : Code) (w : Held) (n : ℕ) (ps : List Pair) 
 
 -- ---- many steps
 
-pub starts : (m : Running) → m ≡ started m.part m.code → (contacts : List Contact) → contacts ≡ [] → HasPassed m.part m.code 0 m contacts
-starts m e contacts none = record { part_is = refl; code_is = refl; state_is = ap (λ (r : Running). r.state) e; contacts_are = none }
+pub starts : (s : Option Sourced) (c : Code) (m : Running) → m ≡ started m.part c → (found : List Found) → found ≡ [] → (rounds : List ℕ) → rounds ≡ replicate 32 0
+    → HasPassed s m.part c 0 m found rounds
+starts s c m e found none rounds begun = record {
+  part_is = refl;
+  code_is = ap (λ (r : Running). r.code) e;
+  state_is = ap (λ (r : Running). r.state) e;
+  found_are = none;
+  rounds_are = begun;
+}
 
-module _ (part : Workpiece) (c : Code) (n : ℕ) (m : Running) (cs : List Contact) (h : HasPassed part c n m cs) where
+module _ (s : Option Sourced) (part : Workpiece) (c : Code) (n : ℕ) (m : Running) (found : List Found) (rounds : List ℕ) (h : HasPassed s part c n m found rounds) where
   -- one step more
-  pub steps_on : (met : Option Contact) (new : Running) (more : List Contact) → HasMet m met new → more ≡ cs ++ listed met → HasPassed part c (n + 1) new more
-  steps_on met new more s e =
-      let here : pass part c (passed_after part c n).state ≡ told new.state (listed met) =
-      ap (pass part c) (sym h.state_is) ∙ ap (λ (p : Workpiece). pass p c m.state) (sym h.part_is) ∙ ap (λ (x : Code). pass m.part x m.state) (sym h.code_is) ∙ s.passed in
-      let all : passed_after part c (suc n) ≡ told new.state more =
-      ap (λ (x : Passed). told x.state ((passed_after part c n).contacts ++ x.contacts)) here
-      ∙ ap (λ (l : List Contact). told new.state l) (ap (λ (l : List Contact). l ++ listed met) (sym h.contacts_are) ∙ sym e) in
+  pub steps_on : (met : Option Contact) (new : Running) → HasMet m met new
+      → (later : List ℕ) → later ≡ rounds_at rounds m.state.next new.state.next new.state.world.stop (slice_get c.statements m.state.next)
+      → (more : List Found) → more ≡ found ++ map (found_at s c.statements c.tables new.state.world.variables later) (option_to_list met)
+      → HasPassed s part c (n + 1) new more later
+  steps_on met new g later r more e =
+      let here : pass part c (passed_after part c n).state ≡ told new.state (option_to_list met) =
+      ap (pass part c) (sym h.state_is) ∙ ap (λ (p : Workpiece). pass p c m.state) (sym h.part_is) ∙ ap (λ (x : Code). pass m.part x m.state) (sym h.code_is) ∙ g.passed in
+      let state : new.state ≡ (passed_after part c (suc n)).state = sym (ap (λ (x : Passed). x.state) here) in
+      let begun : later ≡ rounds_passed part c (suc n) =
+      r ∙ ap (λ (l : List ℕ). rounds_on c l m.state new.state) h.rounds_are ∙ ap (λ (x : CodeState). rounds_on c (rounds_passed part c n) x new.state) h.state_is
+      ∙ ap (rounds_on c (rounds_passed part c n) (passed_after part c n).state) state in
+      let all : more ≡ found_after s part c (suc n) =
+      e ∙ ap (λ (l : List Found). l ++ map (found_at s c.statements c.tables new.state.world.variables later) (option_to_list met)) h.found_are
+      ∙ ap (λ (l : List Found). found_after s part c n ++ l)
+      (ap (λ (x : CodeState). found_on s c x later (option_to_list met)) state ∙ ap (λ (l : List ℕ). found_on s c (passed_after part c (suc n)).state l (option_to_list met)) begun
+      ∙ ap (found_on s c (passed_after part c (suc n)).state (rounds_passed part c (suc n))) (sym (ap (λ (x : Passed). x.contacts) here))) in
       let count : suc n ≡ n + 1 = omega arith in
-      subst (λ k. HasPassed part c k new more) count (record {
-        part_is = s.part_is ∙ h.part_is;
-        code_is = s.code_is ∙ h.code_is;
-        state_is = ap (λ (x : Passed). x.state) (sym all);
-        contacts_are = ap (λ (x : Passed). x.contacts) (sym all);
+      subst (λ k. HasPassed s part c k new more later) count (record {
+        part_is = g.part_is ∙ h.part_is;
+        code_is = g.code_is ∙ h.code_is;
+        state_is = state;
+        found_are = all;
+        rounds_are = begun;
       })
 
+-- what is noted of one step
+pub gone_on : (s : Option Sourced) (c : Code) (m new : Running) → m.code ≡ c → (met : Option Contact) → HasMet m met new → (w : Held) → w.state ≡ new.state.world → w.tables ≡ new.code.tables
+    → (number next : ℕ) → number ≡ m.state.next → next ≡ new.state.next → (rounds later : List ℕ) → later ≡ rounds_at rounds number next w.state.stop (slice_get c.statements number)
+    → (found more : List Found) → more ≡ found ++ map (found_at s c.statements w.tables w.state.variables later) (option_to_list met) → HasGoneOn s c m found rounds new more later
+gone_on s c m new code met g w world tables number next this next_is rounds later begun found more e part n h =
+    let table : w.tables ≡ c.tables = tables ∙ ap (λ (x : Code). x.tables) (g.code_is ∙ code) in
+    steps_on s part c n m found rounds h met new g later
+    (begun ∙ ap (λ i. rounds_at rounds i next w.state.stop (slice_get c.statements i)) this
+    ∙ ap (λ i. rounds_at rounds m.state.next i w.state.stop (slice_get c.statements m.state.next)) next_is
+    ∙ ap (λ x. rounds_at rounds m.state.next new.state.next x.stop (slice_get c.statements m.state.next)) world)
+    more
+    (e ∙ ap (λ t. found ++ map (found_at s c.statements t w.state.variables later) (option_to_list met)) table
+    ∙ ap (λ x. found ++ map (found_at s c.statements c.tables x.variables later) (option_to_list met)) world)
+
+-- memory is refused
+pub refused : (s : Option Sourced) (part : Workpiece) (c : Code) (n : ℕ) (m : Running) (found : List Found) (rounds : List ℕ) → HasPassed s part c n m found rounds
+    → (steps : ℕ) → n < steps → (f : Unfinished) → IsRefusedHere m n f → AreNoContacts part c steps f
+refused s part c n m found rounds h steps few NoMemory r = tt
+refused s part c n m found rounds h steps few (Write k) r = r
+refused s part c n m found rounds h steps few (Memory k) r =
+    let there : (n < steps) × ((passed_after part c n).state.world.stop ≡ None) × (next_prints (slice_get c.statements (passed_after part c n).state.next) ≡ true) = (
+      few,
+      sym (ap (λ (x : CodeState). x.world.stop) h.state_is) ∙ r.1.running,
+      subst (λ (x : CodeState). next_prints (slice_get c.statements x.next) ≡ true) h.state_is
+          (subst (λ (x : Code). next_prints (slice_get x.statements m.state.next) ≡ true) h.code_is r.1.prints),
+    ) in
+    subst (λ (j : ℕ). AreNoContacts part c steps (Memory j)) (sym r.0) there
+
 -- a run that has stopped passes no more
-pub stays : (part : Workpiece) (c : Code) (n : ℕ) (p : StopPlace) → (passed_after part c n).state.world.stop ≡ Some p → (k : ℕ) → passed_after part c (n + k) ≡ passed_after part c n
-stays part c n p e zero = ap (passed_after part c) (let z : n + 0 ≡ n = omega arith in z)
-stays part c n p e (suc k) =
-    ap (passed_after part c) (let z : n + suc k ≡ suc (n + k) = omega arith in z) ∙ ap (pass_on part c) (stays part c n p e k)
-    ∙ ap (λ (x : Passed). told x.state ((passed_after part c n).contacts ++ x.contacts))
-    (ap (λ (o : Option StopPlace). unless_stopped o (told (passed_after part c n).state []) (passed_at part (passed_after part c n).state
-    (code_step (setup_of part c.tables) c.statements (passed_after part c n).state) (slice_get c.statements (passed_after part c n).state.next))) e)
-    ∙ ap (told (passed_after part c n).state) (nothing (passed_after part c n).contacts)
-  where
-    nothing : (l : List Contact) → l ++ [] ≡ l
-    nothing [] = refl
-    nothing (x ∷ l) = ap (λ r. x ∷ r) (nothing l)
+module _ (part : Workpiece) (c : Code) (n : ℕ) (p : StopPlace) (e : (passed_after part c n).state.world.stop ≡ Some p) where
+  at_rest : pass part c (passed_after part c n).state ≡ told (passed_after part c n).state []
+  at_rest =
+      ap (λ (o : Option StopPlace). unless_stopped o (told (passed_after part c n).state []) (passed_at part (passed_after part c n).state
+      (code_step (setup_of part c.tables) c.statements (passed_after part c n).state) (slice_get c.statements (passed_after part c n).state.next))) e
+
+  pub stays : (k : ℕ) → passed_after part c (n + k) ≡ passed_after part c n
+  stays zero = ap (passed_after part c) (let z : n + 0 ≡ n = omega arith in z)
+  stays (suc k) =
+      ap (passed_after part c) (let z : n + suc k ≡ suc (n + k) = omega arith in z) ∙ ap (pass_on part c) (stays k)
+      ∙ ap (λ (x : Passed). told x.state ((passed_after part c n).contacts ++ x.contacts)) at_rest
+      ∙ ap (told (passed_after part c n).state) (append-nil (passed_after part c n).contacts)
+
+  -- nor finds it more
+  pub finds_no_more : (s : Option Sourced) (k : ℕ) → found_after s part c (n + k) ≡ found_after s part c n
+  finds_no_more s zero = ap (found_after s part c) (let z : n + 0 ≡ n = omega arith in z)
+  finds_no_more s (suc k) =
+      let none : (pass part c (passed_after part c (n + k)).state).contacts ≡ [] =
+      ap (λ (x : Passed). (pass part c x.state).contacts) (stays k) ∙ ap (λ (x : Passed). x.contacts) at_rest in
+      ap (found_after s part c) (let z : n + suc k ≡ suc (n + k) = omega arith in z)
+      ∙ ap (λ (l : List Contact). found_after s part c (n + k) ++ found_on s c (passed_after part c (suc (n + k))).state (rounds_passed part c (suc (n + k))) l) none
+      ∙ append-nil (found_after s part c (n + k))
+      ∙ finds_no_more s k
 
 -- what a run that has stopped has passed is what it passes in all steps
-pub ended : (part : Workpiece) (c : Code) (n : ℕ) (m : Running) (cs : List Contact) → HasPassed part c n m cs → (steps : ℕ) → n ≤ steps → (p : StopPlace)
-    → m.state.world.stop ≡ Some p → AreContacts part c steps cs (Some p)
-ended part c n m cs h steps few p e =
+pub ended : (s : Option Sourced) (part : Workpiece) (c : Code) (n : ℕ) (m : Running) (found : List Found) (rounds : List ℕ) → HasPassed s part c n m found rounds
+    → (steps : ℕ) → n ≤ steps → (p : StopPlace) → m.state.world.stop ≡ Some p → AreContacts s part c steps found (Some p)
+ended s part c n m found rounds h steps few p e =
     let all : n + (steps - n) ≡ steps = omega (arith, few) in
     let stopped : (passed_after part c n).state.world.stop ≡ Some p = sym (ap (λ (x : CodeState). x.world.stop) h.state_is) ∙ e in
     let same : passed_after part c steps ≡ passed_after part c n = ap (passed_after part c) (sym all) ∙ stays part c n p stopped (steps - n) in
     record {
-      contacts_are = h.contacts_are ∙ sym (ap (λ (x : Passed). x.contacts) same);
+      found_are = h.found_are ∙ sym (ap (found_after s part c) (sym all) ∙ finds_no_more part c n p stopped s (steps - n));
       stop_is = sym stopped ∙ sym (ap (λ (x : Passed). x.state.world.stop) same);
     }
+
+-- those that are found are the contacts
+pub found_are : FoundAreTheContacts
+found_are s part c zero = refl
+found_are s part c (suc n) =
+    map-append (λ (f : Found). f.contact) (found_after s part c n) (found_on s c (passed_after part c (suc n)).state (rounds_passed part c (suc n)) (pass part c (passed_after part c n).state).contacts)
+    ∙ ap (λ (l : List Contact). l ++ map (λ (f : Found). f.contact) (found_on s c (passed_after part c (suc n)).state (rounds_passed part c (suc n)) (pass part c (passed_after part c n).state).contacts))
+    (found_are s part c n)
+    ∙ ap (λ (l : List Contact). (passed_after part c n).contacts ++ l)
+    (those (passed_after part c (suc n)).state (rounds_passed part c (suc n)) (pass part c (passed_after part c n).state).contacts)
+  where
+    those : (x : CodeState) (rounds : List ℕ) (cs : List Contact) → map (λ (f : Found). f.contact) (found_on s c x rounds cs) ≡ cs
+    those x rounds [] = refl
+    those x rounds (y ∷ cs) = ap (λ (l : List Contact). y ∷ l) (those x rounds cs)

@@ -4,14 +4,15 @@ use Rattle.vcm_spec.specs.declared.stop.StopPlace.{StopPlace}
 use Rattle.vcm_spec.specs.Workpiece.{Workpiece}
 use Rattle.vcm_code.specs.declared.code.Code.{Code}
 use Rattle.vcm_code.specs.CodeTable.{next_prints}
-use Rattle.vcm_contacts.specs.declared.contact.Contact.{Contact}
+use Rattle.vcm_backtrace.specs.Sources.{Sourced}
 use Rattle.vcm_steps.specs.declared.fault.Unfinished.{Unfinished}
 use Rattle.vcm_steps.specs.declared.fault.Unfinished.TheVariants.{NoMemory, Memory, Write}
+use Rattle.vcm_contacts.specs.Noted.{Found, found_after}
 use Rattle.vcm_contacts.specs.Passing.{passed_after}
 
--- these are the contacts of a run for n steps that goes on behind each, and this is how it ended
-pub record AreContacts (part : Workpiece) (c : Code) (n : ℕ) (contacts : List Contact) (stop : Option StopPlace) : Type 0 where
-  pub contacts_are : contacts ≡ (passed_after part c n).contacts
+-- these are the contacts of a run for n steps that goes on behind each, of a code with this source, if it has one, and this is how it ended
+pub record AreContacts (s : Option Sourced) (part : Workpiece) (c : Code) (n : ℕ) (found : List Found) (stop : Option StopPlace) : Type 0 where
+  pub found_are : found ≡ found_after s part c n
   pub stop_is : stop ≡ (passed_after part c n).state.world.stop
 
 -- memory was refused before such a run or for its contacts; or behind so many of its steps, to a statement that makes an output line

@@ -1,5 +1,6 @@
 pub mod Leading
 pub mod Passing
+pub mod Noted
 pub mod Printed
 pub mod Samples
 pub mod Collecting

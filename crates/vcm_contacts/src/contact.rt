@@ -13,6 +13,13 @@ pub struct Contact {
     pub line: u32,
 }
 
+/// A contact, and the backtrace of its statement, in lines.
+#[derive(Drop)]
+pub struct FoundContact {
+    pub contact: Contact,
+    pub backtrace: Vec<u8>,
+}
+
 /// How a run goes on behind a contact. Points are those of the tip's centre.
 #[derive(Clone, Copy)]
 pub enum Lead {

@@ -41,7 +41,7 @@ impl<'a, P: Part> Model for Passing<'a, P> {
 }
 
 impl<'a, P: Part> Passing<'a, P> {
-    ghost use Rattle.std.specs.Prelude.{◌≡◌, None, Some, IfOk, OnErr, slice_get};
+    ghost use Rattle.std.specs.Prelude.{◌≡◌, ◌<◌, None, Some, IfOk, OnErr, length, slice_get};
     ghost use Rattle.vcm_spec.specs.declared.stop.Stop.TheVariants.{Collision};
     ghost use Rattle.vcm_code.specs.Code.{CodeStatement};
     ghost use Rattle.vcm_machine.specs.Running.{started, WantsMemory};
@@ -84,6 +84,14 @@ impl<'a, P: Part> Passing<'a, P> {
         ensures tables { result.now.tables ≡ self.now.code.tables }
     {
         &self.world
+    }
+
+    /// The number of the next statement.
+    pub(crate) fn next(&self) -> u32
+        ensures is { result ≡ self.now.state.next }
+        ensures within { result < length self.now.code.statements }
+    {
+        self.next
     }
 
     // The run stops at the next statement.

@@ -4,9 +4,10 @@ ghost use Rattle.std.specs.Prelude.{◌≡◌, ◌++◌, [], ◌∷◌, map};
 ghost use Rattle.vcm_num.specs.Written.{Wrote};
 ghost use Rattle.vcm_naming.specs.Pages.{page, Added};
 ghost use Rattle.vcm_report.specs.Printed.{end_line};
-ghost use Rattle.vcm_contacts.specs.Printed.{contact_text, contact_line, contacts_word, some_line, count_line, contacts_text};
+ghost use Rattle.vcm_contacts.specs.Noted.{seen};
+ghost use Rattle.vcm_contacts.specs.Printed.{contact_text, contact_line, found_lines, all_lines, contacts_word, some_line, count_line, contacts_text};
 
-use crate::contact::Contact;
+use crate::contact::{Contact, FoundContact};
 use itoa::Buffer;
 use std::io::Write;
 use vcm_items::Tables;
@@ -58,18 +59,30 @@ fn write_named<W: Write>(
     names.write_once(Some(contact.hit.block), writer)
 }
 
-/// Writes contacts, a line for each, and the names of their blocks that are left.
-///
-/// Errors: the writer failed, or took no byte; then it has taken a front of the lines, and not all of them.
-pub fn write_each<W: Write>(
-    contacts: &[Contact],
+// The same, and below it the backtrace of its statement.
+fn write_found<W: Write>(
+    found: &FoundContact,
     names: &mut BlockNames,
     writer: &mut W,
 ) -> Result<(), WriteFault>
-    ensures { Added (page (W.contents writer.old) names.old) (page (W.contents writer.new) names.new) (map contact_line contacts.now) result }
+    ensures { Added (page (W.contents writer.old) names.old) (page (W.contents writer.new) names.new) (found_lines (seen found.now)) result }
 {
-    for contact in contacts {
-        write_named(contact, names, writer)?;
+    write_named(&found.contact, names, writer)?;
+    write_all(writer, &found.backtrace)
+}
+
+/// Writes contacts, a line for each, the names of their blocks that are left, and the backtraces of their statements.
+///
+/// Errors: the writer failed, or took no byte; then it has taken a front of the lines, and not all of them.
+pub fn write_each<W: Write>(
+    contacts: &[FoundContact],
+    names: &mut BlockNames,
+    writer: &mut W,
+) -> Result<(), WriteFault>
+    ensures { Added (page (W.contents writer.old) names.old) (page (W.contents writer.new) names.new) (all_lines (map seen contacts.now)) result }
+{
+    for found in contacts {
+        write_found(found, names, writer)?;
     }
     Ok(())
 }
@@ -109,42 +122,42 @@ fn write_some<W: Write>(count: usize, line: u32, writer: &mut W) -> Result<(), W
 /// Writes how many contacts there are, and that what stands behind the first is a guess.
 ///
 /// Errors: likewise.
-pub fn write_count<W: Write>(contacts: &[Contact], writer: &mut W) -> Result<(), WriteFault>
-    ensures { Wrote (W.contents writer.old) (W.contents writer.new) (count_line contacts.now) result }
+pub fn write_count<W: Write>(contacts: &[FoundContact], writer: &mut W) -> Result<(), WriteFault>
+    ensures { Wrote (W.contents writer.old) (W.contents writer.new) (count_line (map seen contacts.now)) result }
 {
     match contacts.split_first() {
         None => write_all(writer, b"0 contacts\n"),
-        Some((first, _)) => write_some(contacts.len(), first.line, writer),
+        Some((first, _)) => write_some(contacts.len(), first.contact.line, writer),
     }
 }
 
 // Writes how many contacts there are, and how the run ended.
 fn write_rest<W: Write>(
     tables: &Tables,
-    contacts: &[Contact],
+    contacts: &[FoundContact],
     stop: Option<StopPlace>,
     steps: u64,
     writer: &mut W,
 ) -> Result<(), WriteFault>
-    ensures { Wrote (W.contents writer.old) (W.contents writer.new) (count_line contacts.now ++ end_line tables.now stop steps) result }
+    ensures { Wrote (W.contents writer.old) (W.contents writer.new) (count_line (map seen contacts.now) ++ end_line tables.now stop steps) result }
 {
     write_count(contacts, writer)?;
     write_end_line(tables, stop, steps, writer)
 }
 
-/// Writes the contacts of a run for so many steps, a line for each, below the first of a block the block's name, if it has one; how many they are, that what
-/// stands after the first is a guess, and how the run ended.
+/// Writes the contacts of a run for so many steps, a line for each, below the first of a block the block's name, if it has one, and below each the backtrace of its statement; how
+/// many they are, that what stands after the first is a guess, and how the run ended.
 ///
 /// Errors: the writer failed, or took no byte; then it has taken a front of the text, and not all of it.
 pub fn write_contacts<W: Write>(
     tables: &Tables,
-    contacts: &[Contact],
+    contacts: &[FoundContact],
     stop: Option<StopPlace>,
     steps: u64,
     names: &mut BlockNames,
     writer: &mut W,
 ) -> Result<(), WriteFault>
-    ensures { Wrote (W.contents writer.old) (W.contents writer.new) (contacts_text names.old tables.now contacts.now stop steps) result }
+    ensures { Wrote (W.contents writer.old) (W.contents writer.new) (contacts_text names.old tables.now (map seen contacts.now) stop steps) result }
 {
     write_each(contacts, names, writer)?;
     write_rest(tables, contacts, stop, steps, writer)

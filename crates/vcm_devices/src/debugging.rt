@@ -1,10 +1,11 @@
 //! A session of the debugger on the standard devices.
 
+use crate::about::fails_about;
 use crate::hand::{debug_put, debug_typed};
 use crate::parts::named_part_given;
 use crate::printing::{output, written};
 use crate::request::Request;
-use crate::talking::{Voice, fails_in, fails_twice, tell_notices};
+use crate::talking::{Voice, fails_twice, tell_notices};
 use std::io::Read;
 use std::rt::Files;
 use vcm_job::{Given, debug};
@@ -79,6 +80,6 @@ pub fn debug_file<R: Files + Input + Print + Eprint + AllocGlobal>(
             tell_notices(rt, voice, notices.as_slice());
             0
         }
-        Err(message) => fails_in(rt, voice, message, name),
+        Err(message) => fails_about(rt, voice, message, name),
     }
 }

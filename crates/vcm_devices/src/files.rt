@@ -1,5 +1,6 @@
 //! What is made of one file alone: whether its program is accepted, its listing, its image.
 
+use crate::about::tell_about;
 use crate::printing::{DASH, STANDARD_INPUT, fails, output, status_of_notices, written};
 use crate::request::Request;
 use crate::talking::{Voice, tell_notices, tell_of_whole};
@@ -74,10 +75,13 @@ pub fn check_file<R: Files + Input + Print + Eprint + AllocGlobal>(
         Err(message) => Some(*message),
     };
     let status = status_of_notices(rt, voice, done);
-    if let Some(message) = refusal {
-        tell_of_whole(rt, voice, message);
+    match refusal {
+        Some(message) => {
+            tell_of_whole(rt, voice, message);
+            tell_about(rt, voice, message, name, status)
+        }
+        None => status,
     }
-    status
 }
 
 /// Prints the listing of a file's program or image, and gives the exit status.
@@ -86,8 +90,17 @@ pub fn list_file<R: Files + Input + Print + Eprint + AllocGlobal>(
     voice: Voice,
     request: &Request<'_, '_>,
 ) -> u8 {
-    let done = print_of(rt, Printed::List, request.input());
-    status_of_notices(rt, voice, done)
+    let name = request.input();
+    let done = print_of(rt, Printed::List, name);
+    let refusal = match &done {
+        Ok(_) => None,
+        Err(message) => Some(*message),
+    };
+    let status = status_of_notices(rt, voice, done);
+    match refusal {
+        Some(message) => tell_about(rt, voice, message, name, status),
+        None => status,
+    }
 }
 
 const ONE_FILE: Message<'static> = Message::Option {
@@ -147,7 +160,7 @@ fn image_in<'a, I: Read>(
 }
 
 // Writes the image of what a reader of this name gives, and gives the exit status.
-fn make_from<R: Files + Eprint + AllocGlobal, I: Read>(
+fn make_from<R: Files + Input + Eprint + AllocGlobal, I: Read>(
     rt: &R,
     voice: Voice,
     source: Source,
@@ -157,7 +170,10 @@ fn make_from<R: Files + Eprint + AllocGlobal, I: Read>(
 ) -> u8 {
     match image_in(rt.alloc(), source, input, name) {
         Ok(built) => write_image(rt, voice, image, &built.image, built.notices.as_slice()),
-        Err(message) => fails(rt, message),
+        Err(message) => {
+            let status = fails(rt, message);
+            tell_about(rt, voice, message, name, status)
+        }
     }
 }
 

@@ -1,5 +1,6 @@
 //! Jobs from standard input.
 
+use crate::about::about_of;
 use crate::parts::tell_unused;
 use crate::printing::{fails, output, status_after, written};
 use crate::talking::{OF_JOBS, Terminals, Told, Voice, alone, fails_twice};
@@ -46,6 +47,14 @@ fn part_front(input: &[u8]) -> (&[u8], bool) {
     }
 }
 
+// The program of a job: what stands behind its first mark.
+fn program_behind(input: &[u8]) -> &[u8] {
+    match front_len(input) {
+        Some(count) if count < input.len() => cut_line(input.split_at(count).1).1,
+        _ => &[],
+    }
+}
+
 // What is told of a job whose part is refused; none where memory runs out.
 fn second_of(alloc: Global, input: &[u8], fault: PartFault) -> Option<String> {
     let (part, has_mark) = part_front(input);
@@ -60,11 +69,14 @@ fn second_of(alloc: Global, input: &[u8], fault: PartFault) -> Option<String> {
     format!(in alloc; "standard input has no line %%: {what}").ok()
 }
 
-// A fault of a job, with what is told of a refused part.
+// A fault of a job, with what is told of a refused part, or what a refusal of its program is about.
 fn told_of(alloc: Global, input: &[u8], fault: JobFault) -> Told<'static> {
     let message = message_of(fault, "standard input");
     let JobFault::Refused(Refusal::Part(fault)) = fault else {
-        return alone(message);
+        return match about_of(alloc, program_behind(input), message) {
+            Ok(second) => Told { message, second },
+            Err(NoMemory) => alone(Message::NoMemory),
+        };
     };
     match second_of(alloc, input, fault) {
         None => alone(Message::NoMemory),

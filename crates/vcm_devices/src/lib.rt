@@ -1,7 +1,8 @@
 //! The commands of vcm on the standard devices and files: the command line, what is read, printed and told, and the exit status. Commands for
-//! producers' texts and for editors stand in `vcm_command`.
+//! producers' texts, several probes and editors stand in the crates above.
 #![tactic(auto)]
 
+mod about;
 mod closing;
 mod debugging;
 mod files;
@@ -10,6 +11,7 @@ mod jobs;
 mod pages;
 mod parts;
 mod printing;
+mod remarking;
 mod request;
 mod sheets;
 mod showing;
@@ -17,6 +19,7 @@ mod talking;
 mod values;
 mod view;
 
+pub use about::{about_of, tell_about};
 pub use closing::fails_unless_closed;
 pub use debugging::{debug_file, debug_text, unread_input};
 pub use files::{asm_file, build_file, check_file, list_file};
@@ -29,8 +32,12 @@ pub use printing::{
     DASH, Outlet, Output, STANDARD_INPUT, bytes_of, fails, output, print_bytes, status_after,
     written,
 };
+pub use remarking::remarks_text;
 pub use request::{Request, matches_of, steps_of};
-pub use sheets::{LINES, base_name, is_sheet, lines_given, lines_of, show_picture, titles_of};
+pub use sheets::{
+    LINES, PAPERS, base_name, is_sheet, lines_given, lines_of, paper_given, show_picture, title_of,
+    titles_of,
+};
 pub use showing::{
     NamedSetting, NamedView, Unread, boxes_of, named_setting_of, show_named, show_points,
     show_view, tell_unread,

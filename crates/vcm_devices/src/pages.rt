@@ -15,6 +15,7 @@ use vcm_messages::{Message, message_of};
 use vcm_num::{Point, write_all};
 use vcm_page::{Page, Texts};
 use vcm_part::PartData;
+use vcm_rows::write_spelled;
 use vcm_viewer::{back, front};
 use vcm_views::{Clearance, Why};
 
@@ -69,11 +70,12 @@ fn boxes_element(
         b"<script type=\"text/plain\" id=\"probe-boxes\">\n",
     )?;
     put(&mut out, lines.as_bytes())?;
-    // The script of the page reads these lines, which have no names of blocks.
+    // The script of the page reads these lines, which have no names of blocks and no CALLs.
     let view = Clearance {
         boxes,
         untried,
         block_names: &[],
+        tells_calls: false,
     };
     match show(alloc, &view, given, part, steps, &mut out) {
         Ok(_) => {}
@@ -153,26 +155,17 @@ pub fn names_element(alloc: Global, names: &[Vec<u8>]) -> Result<Vec<u8>, RunFau
     Ok(out)
 }
 
-// The digits of hexadecimal numbers.
-const DIGITS: &[u8; 16] = b"0123456789ABCDEF";
-
-// A digit of a hexadecimal number.
-fn digit(number: u8) -> u8 {
-    match DIGITS.get(usize::from(number)) {
-        Some(digit) => *digit,
-        None => b'0',
-    }
-}
-
-// Adds a text as it is spelled in an element: each byte that isn't printable, and `<` and `%`, by its number, as `%3C`.
+// Adds a text, each of its lines as texts are spelled in an element.
 fn put_text(out: &mut Vec<u8>, text: &[u8]) -> Result<(), RunFault> {
-    for byte in text {
-        let is_plain = *byte == b'\n' || (*byte >= 32 && *byte <= 126);
-        if is_plain && *byte != b'<' && *byte != b'%' {
-            put(out, &[*byte])?;
-        } else {
-            put(out, &[b'%', digit(*byte / 16), digit(*byte % 16)])?;
+    let mut is_first = true;
+    for line in text.split(|byte| *byte == b'\n') {
+        if !is_first {
+            put(out, b"\n")?;
         }
+        is_first = false;
+        let Ok(()) = write_spelled(line, out) else {
+            return Err(RunFault::NoMemory);
+        };
     }
     Ok(())
 }

@@ -1,15 +1,17 @@
 //! What is shown of a run: its views, on the standard devices.
 
+use crate::about::tell_about;
 use crate::parts::{named_part_given, part_given};
-use crate::printing::{DASH, STANDARD_INPUT, fails, output, status_after, written};
+use crate::printing::{DASH, STANDARD_INPUT, bytes_of, fails, output, status_after, written};
+use crate::remarking::remarks_text;
 use crate::request::Request;
-use crate::talking::{Told, Voice, alone, fails_in, fails_in_view, fails_twice};
+use crate::talking::{Told, Voice, alone, fails_in, fails_in_view, fails_twice, tell_notices};
 use crate::view::{View, write_view};
 use std::alloc::Global;
 use std::io::Read;
 use std::rt::Files;
 use vcm_boxes::{Boxes, BoxesFault, read_boxes};
-use vcm_job::{Done, ReadFault, read_all};
+use vcm_job::{Done, Given, ReadFault, RunFault, given_of, read_all, show};
 use vcm_messages::{Message, message_of, probe_message};
 use vcm_part::PartData;
 use vcm_usage::Choice;
@@ -89,7 +91,7 @@ fn print_view_of<'a, R: Files + Input + Print + AllocGlobal>(
 }
 
 /// The exit status of what was shown. Where it wasn't, it is told why, but not that nobody reads it.
-pub(crate) fn status_shown<R: Eprint + AllocGlobal>(
+pub(crate) fn status_shown<R: Files + Input + Eprint + AllocGlobal>(
     rt: &R,
     voice: Voice,
     shown: Result<Done, Message<'_>>,
@@ -97,7 +99,10 @@ pub(crate) fn status_shown<R: Eprint + AllocGlobal>(
 ) -> u8 {
     match shown {
         Ok(done) => status_after(rt, voice, Ok(done)),
-        Err(message) => fails_in_view(rt, voice, message, input),
+        Err(message) => {
+            let status = fails_in_view(rt, voice, message, input);
+            tell_about(rt, voice, message, input, status)
+        }
     }
 }
 
@@ -169,14 +174,85 @@ pub fn show_view<R: Files + Input + Print + Eprint + AllocGlobal>(
     }
 }
 
-/// Prints the measured points of a run, in machine coordinates where `--machine` asks for them, and gives the exit status.
+// The program or image of a file, or of standard input.
+fn given_input<'a, R: Files + Input + AllocGlobal>(
+    rt: &R,
+    input: &'a str,
+) -> Result<Given, Message<'a>> {
+    let bytes = bytes_of(rt, input)?;
+    match given_of(rt.alloc(), bytes) {
+        Ok(given) => Ok(given),
+        Err(fault) => Err(message_of(fault, input_name(input))),
+    }
+}
+
+// How an input is named in what is told.
+fn input_name(input: &str) -> &str {
+    if input == DASH { STANDARD_INPUT } else { input }
+}
+
+// Why points aren't told; an image that was built is refused for want of memory alone.
+fn untold(given: &Given, fault: RunFault) -> RunFault {
+    match fault {
+        RunFault::Refused(_) if given.text.is_some() => RunFault::NoMemory,
+        fault => fault,
+    }
+}
+
+// Prints the measured points of a run of what was given, and gives the exit status.
+fn print_points<'a, R: Print + AllocGlobal>(
+    rt: &R,
+    view: &Points,
+    given: &Given,
+    part: &PartData,
+    steps: u64,
+    input: &'a str,
+) -> Result<u8, Message<'a>> {
+    let mut out = output(rt)?;
+    let shown = show(rt.alloc(), view, given, part, steps, &mut out);
+    let told = shown.map_err(|fault| message_of(untold(given, fault), input_name(input)));
+    written(&mut out, told)
+}
+
+// Tells what is remarked of a run, behind its notices, and gives the exit status of the run that had this one.
+fn tell_behind<R: Eprint + AllocGlobal>(
+    rt: &R,
+    voice: Voice,
+    given: &Given,
+    part: &PartData,
+    steps: u64,
+    status: u8,
+) -> u8 {
+    tell_notices(rt, voice, given.notices.as_slice());
+    match remarks_text(rt.alloc(), voice, given, part, steps) {
+        Ok(text) => {
+            let _ = eprint!(rt; "{text}");
+            status
+        }
+        Err(_) => fails(rt, Message::NoMemory),
+    }
+}
+
+/// Prints the measured points of a run, in machine coordinates where `--machine` asks for them, tells what is remarked of them, and gives the exit status.
 pub fn show_points<R: Files + Input + Print + Eprint + AllocGlobal>(
     rt: &R,
     voice: Voice,
     request: &Request<'_, '_>,
 ) -> u8 {
+    let (steps, part) = match setting_of(rt, voice, request) {
+        Ok(setting) => setting,
+        Err(told) => return fails_twice(rt, &told),
+    };
+    let input = request.input();
+    let given = match given_input(rt, input) {
+        Ok(given) => given,
+        Err(message) => return fails_in_view(rt, voice, message, input),
+    };
     let is_machine = request.has(Choice::Machine);
-    show_view(rt, voice, &View::Points(Points { is_machine }), request)
+    match print_points(rt, &Points { is_machine }, &given, &part, steps, input) {
+        Ok(status) => tell_behind(rt, voice, &given, &part, steps, status),
+        Err(message) => fails_in_view(rt, voice, message, input),
+    }
 }
 
 /// A view of a run that names blocks.

@@ -1,9 +1,10 @@
 //! The result of a run, and one that shows variables at its end.
 
+use crate::about::fails_about;
 use crate::printing::{DASH, STANDARD_INPUT, bytes_of, fails, output, status_after, written};
 use crate::request::Request;
 use crate::showing::setting_of;
-use crate::talking::{Voice, fails_in, fails_twice};
+use crate::talking::{Voice, fails_twice};
 use std::alloc::Global;
 use std::io::Read;
 use std::rt::Files;
@@ -93,14 +94,14 @@ fn show_values_beside<R: Files + Input + Print + Eprint + AllocGlobal>(
 ) -> u8 {
     let (given, places) = match read_with(rt, input, names) {
         Ok(read) => read,
-        Err(message) => return fails_in(rt, voice, message, input),
+        Err(message) => return fails_about(rt, voice, message, input),
     };
     let Some(places) = places else {
         return fails(rt, NAMES);
     };
     match print_values(rt, part, given, &places, steps, input) {
         Ok(done) => status_after(rt, voice, Ok(done)),
-        Err(message) => fails_in(rt, voice, message, input),
+        Err(message) => fails_about(rt, voice, message, input),
     }
 }
 
@@ -148,7 +149,7 @@ pub fn show_result<R: Files + Input + Print + Eprint + AllocGlobal>(
         Some(names) => show_values_beside(rt, voice, &part, input, steps, names),
         None => match print_result_of(rt, &part, input, steps) {
             Ok(done) => status_after(rt, voice, Ok(done)),
-            Err(message) => fails_in(rt, voice, message, input),
+            Err(message) => fails_about(rt, voice, message, input),
         },
     }
 }

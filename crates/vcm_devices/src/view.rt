@@ -5,7 +5,8 @@ use std::io::{Read, Write};
 use vcm_job::{Done, Given, RunFault, given_of, read_all, show_given};
 use vcm_part::PartData;
 use vcm_views::{
-    AllContacts, Clearance, Picture, Points, SheetView, TipMargin, Trace, Values, Why,
+    AllContacts, Clearance, FirstContacts, Picture, Points, SheetView, TipMargin, Trace, Values,
+    Why,
 };
 
 /// A view of a run that a command prints.
@@ -18,6 +19,7 @@ pub enum View<'a> {
     Margin,
     Points(Points),
     Clearance(Clearance<'a>),
+    First(FirstContacts<'a>),
     Picture(Picture<'a>),
     Sheet(SheetView<'a>),
 }
@@ -39,6 +41,7 @@ pub fn write_given<W: Write>(
         View::Margin => show_given(alloc, &TipMargin, given, part, steps, writer),
         View::Points(view) => show_given(alloc, view, given, part, steps, writer),
         View::Clearance(view) => show_given(alloc, view, given, part, steps, writer),
+        View::First(view) => show_given(alloc, view, given, part, steps, writer),
         View::Picture(view) => show_given(alloc, view, given, part, steps, writer),
         View::Sheet(view) => show_given(alloc, view, given, part, steps, writer),
     }

@@ -1,6 +1,7 @@
 //! What each refusal, stop and other message of vcm means, and what to do about it.
 #![tactic(auto)]
 
+mod about_entries;
 mod entry;
 mod file_entries;
 mod hardware_entries;
@@ -9,9 +10,11 @@ mod many_entries;
 mod model_entries;
 mod probe_entries;
 mod program_entries;
+mod remark_entries;
 mod run_entries;
 mod session_entries;
 
+use crate::about_entries::{block_about_entries, name_about_entries};
 use crate::file_entries::{
     code_entries, image_entries, listing_entries, part_entries, placing_entries,
 };
@@ -32,12 +35,13 @@ use crate::probe_entries::{
 use crate::program_entries::{
     block_entries, line_entries, name_entries, size_entries, spelling_entries, value_entries,
 };
+use crate::remark_entries::remark_entries;
 use crate::run_entries::{arithmetic_entries, device_entries, motion_entries, notice_entries};
 use crate::session_entries::session_entries;
 pub use entry::Entry;
 
 /// All explanations: of programs, of part files, probe files, descriptions of what hangs on the head, models, images and listings, of the debugger, of runs, and of the lines of answers.
-pub fn explanations() -> [&'static [Entry]; 36] {
+pub fn explanations() -> [&'static [Entry]; 39] {
     [
         line_entries(),
         spelling_entries(),
@@ -45,6 +49,8 @@ pub fn explanations() -> [&'static [Entry]; 36] {
         name_entries(),
         block_entries(),
         size_entries(),
+        name_about_entries(),
+        block_about_entries(),
         part_entries(),
         placing_entries(),
         box_entries(),
@@ -75,6 +81,7 @@ pub fn explanations() -> [&'static [Entry]; 36] {
         clearance_entries(),
         turning_entries(),
         many_entries(),
+        remark_entries(),
     ]
 }
 
@@ -149,12 +156,37 @@ fn behind_box(words: &[u8]) -> &[u8] {
     }
 }
 
+// Whether words begin with these.
+fn is_front(words: &[u8], front: &[u8]) -> bool {
+    match words.get(..front.len()) {
+        Some(words) => words.eq_ignore_ascii_case(front),
+        None => false,
+    }
+}
+
+// What stands behind the first word, in a line that tells of this word what a refusal is about; nothing in any other.
+fn behind_subject(words: &[u8]) -> &[u8] {
+    if is_front(words, b"frame ") {
+        return &[];
+    }
+    let rest = behind_word(words);
+    if is_front(rest, b"of line ")
+        || is_front(rest, b"is declared in line ")
+        || is_front(rest, b"stands in ")
+        || is_front(rest, b"closes no ")
+    {
+        return rest;
+    }
+    &[]
+}
+
 /// The explanation of a code, a name or a whole message, whatever its case: the first one whose code, name or words stand at its beginning, behind
-/// which nothing stands, or a blank, a colon, a comma, a semicolon or a full stop. A line that tells of a box is explained by what it tells of it, one that tells of a stop by
+/// which nothing stands, or a blank, a colon, a comma, a semicolon or a full stop. A line that tells of a box is explained by what it tells of it, one about a name or a block by what it tells of that, one that tells of a stop by
 /// that, also where other words stand in front of it, and one that counts something, with or without the word `notice`, by what is counted.
 pub fn explanation(words: &str) -> Option<&'static Entry> {
     let words = without_blanks(words.as_bytes());
     for line in [
+        behind_subject(words),
         behind_box(words),
         noticed(words),
         behind_stop(words),

@@ -26,11 +26,12 @@ of macros once for each CALL. Lines without effect, declarations and CALLs don't
         keys: &["in"],
         text: "in
 A second line, below a refusal: `in part.toml` is the file that was refused. In `vcm why`,
-`in M(GRID) from line 8: ..` is a CALL that led to the statement, the innermost first.",
+`contacts`, `clearance` and `margin`, `in M(GRID) from line 8: ..` is a CALL that led to the
+statement, the innermost first.",
     },
 ];
 
-const WHY: [Entry; 8] = [
+const WHY: [Entry; 11] = [
     Entry {
         keys: &["past a limit"],
         text: "past a limit
@@ -54,10 +55,28 @@ A line of `vcm why`, where the way back from a touch meets a block: with SNSET/R
 that length, or less, it doesn't meet this block.",
     },
     Entry {
+        keys: &["an approach of"],
+        text: "an approach of
+A line of `vcm why`, where the way to an approach point meets a block: with SNSET/APPRCH
+of that length, or less, the way from the same place doesn't meet this block.",
+    },
+    Entry {
+        keys: &["no box of the probe"],
+        text: "no box of the probe meets a block
+The first line of `vcm why --probe` with a file of one probe, where none of its boxes meets
+a block before the run ends or stops. Below it stands why the run stops, as without it.",
+    },
+    Entry {
         keys: &["contact of the tip's centre"],
         text: "contact of the tip's centre
 A line of `vcm why`: where the centre of the tip stands as it meets the block, and the
 low and the high corner of that block, in machine coordinates, in millimetres.",
+    },
+    Entry {
+        keys: &["contact of"],
+        text: "contact of
+A line of `vcm why --probe`: where the centre of the tip stands as this box of the probe
+meets the block, and the low and the high corner of that block, in machine coordinates.",
     },
     Entry {
         keys: &["way"],
@@ -69,13 +88,15 @@ that stopped, in machine coordinates, in millimetres.",
         keys: &["free over it", "free"],
         text: "free over it
 A line of `vcm why`: from which height, or past which coordinate, on a straight way is
-free of the block that was met. Whether another block stands there isn't asked.",
+free of the block that was met. Whether another block stands there isn't asked. With
+`--probe` it is told of the box that met it, as places of the centre of the tip.",
     },
     Entry {
         keys: &["round"],
         text: "round
-A line of `vcm why`: in which round of a DO the run stopped, the first being 1, and the
-value of the loop's variable there. The innermost loop is told first.",
+A line of `vcm why`, `contacts`, `clearance` and `margin`: in which round of a DO it was,
+the first being 1, and the value of the loop's variable there. The innermost loop is told
+first.",
     },
     Entry {
         keys: &["line"],

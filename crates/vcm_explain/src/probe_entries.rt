@@ -169,9 +169,9 @@ const TURNS: [Entry; 7] = [
     Entry {
         keys: &["this file has one probe"],
         text: "this file has one probe
-Of a probe file without the key `probe` only its boxes could be tried, which `vcm clearance`
-and `vcm view` do. The other commands take files of several probes with `--probe`, since
-these change where the tip stands.",
+Of a probe file without the key `probe` only its boxes could be tried, which `vcm clearance`,
+`vcm view` and `vcm why` do. The other commands take files of several probes with `--probe`,
+since these change where the tip stands.",
     },
     Entry {
         keys: &["first"],

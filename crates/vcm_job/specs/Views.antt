@@ -16,11 +16,11 @@ use Rattle.vcm_job.specs.Inputs.{IsInputRefusal}
 use Rattle.vcm_job.specs.Given.{IsImageOf, IsCodeOf, text_of}
 
 -- a view of a code beside a workpiece, in a run for at most n steps. `tells`: of a code with this program text, if there is one, and these lines without
--- effect the view has this text and this exit status. `halted`: memory was refused to the run after so many steps, and this is what its writer had before
--- and has after it
+-- effect the view has this text and this exit status. `halted`: memory was refused to the run of such a code after so many steps, and this is what its writer had
+-- before and has after it
 pub record RunView : Type 1 where
   pub tells : (program : Option (List ℕ)) → List Noticed → Workpiece → Code → (n : ℕ) → (text : List ℕ) → (status : ℕ) → Type 0
-  pub halted : Workpiece → Code → (n done : ℕ) → (old new : Option (List ℕ)) → Type 0
+  pub halted : (program : Option (List ℕ)) → Workpiece → Code → (n done : ℕ) → (old new : Option (List ℕ)) → Type 0
 
 -- it was written and nothing else, and this is the exit status
 pub record IsViewed (view : RunView) (program : Option (List ℕ)) (notices : List Noticed) (part : Workpiece) (c : Code) (n status : ℕ) (old new : Option (List ℕ)) : Type 0 where
@@ -38,7 +38,7 @@ pub record IsCutOff (view : RunView) (program : Option (List ℕ)) (notices : Li
 -- why no whole view was written: memory was refused in the run, after so many steps; or before it or for the view itself, and nothing was written; or a
 -- write failed
 abbrev pub IsCutShort : RunView → Option (List ℕ) → List Noticed → Workpiece → Code → ℕ → Fault InputRefusal → Option (List ℕ) → Option (List ℕ) → Type 0
-IsCutShort view program notices part c n (Memory done) old new = view.halted part c n done old new
+IsCutShort view program notices part c n (Memory done) old new = view.halted program part c n done old new
 IsCutShort view program notices part c n NoMemory old new = Keeps old new
 IsCutShort view program notices part c n (Write done) old new = IsCutOff view program notices part c n old new
 IsCutShort view program notices part c n _ old new = ⊥

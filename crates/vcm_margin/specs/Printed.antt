@@ -37,14 +37,18 @@ difference_text tables (Measured i f place) = feature_text tables i f place
 abbrev pub state_lines : Point → ℕ → List ℕ
 state_lines p n = position_line p ++ steps_line n
 
--- in what a run differs, and where
-abbrev pub seen_text : Tables → Seen → List ℕ
-seen_text tables seen = difference_text tables seen.what ++ state_lines seen.position seen.steps
+-- the backtrace of its statement, and where it then stands
+abbrev pub reached_text : Seen → (backtrace : List ℕ) → List ℕ
+reached_text seen backtrace = backtrace ++ state_lines seen.position seen.steps
+
+-- in what a run differs, the backtrace of the statement, and where it then stands
+abbrev pub seen_text : Tables → Seen → (backtrace : List ℕ) → List ℕ
+seen_text tables seen backtrace = difference_text tables seen.what ++ reached_text seen backtrace
 
 -- what is met
-abbrev pub difference_or_home : Tables → Met → List ℕ
-difference_or_home tables Home = codes "P06 HomeNotClear\n"
-difference_or_home tables (Behind seen) = seen_text tables seen
+abbrev pub difference_or_home : Tables → Met → (backtrace : List ℕ) → List ℕ
+difference_or_home tables Home backtrace = codes "P06 HomeNotClear\n"
+difference_or_home tables (Behind seen) backtrace = seen_text tables seen backtrace
 
 -- the half width
 abbrev pub width_text : ℕ → List ℕ
@@ -55,10 +59,10 @@ abbrev pub wider_text : ℕ → List ℕ
 wider_text h = in_a_row (codes "at " ∷ decimal (h + 1) ∷ codes " " ∷ [])
 
 -- what is met with it, if there is a wider tip
-abbrev pub met_text : Tables → ℕ → Option Met → List ℕ
-met_text tables h None = []
-met_text tables h (Some met) = wider_text h ++ difference_or_home tables met
+abbrev pub met_text : Tables → ℕ → Option Met → (backtrace : List ℕ) → List ℕ
+met_text tables h None backtrace = []
+met_text tables h (Some met) backtrace = wider_text h ++ difference_or_home tables met backtrace
 
--- the half width, and what is met
-abbrev pub margin_text : Tables → Margin → List ℕ
-margin_text tables m = width_text m.tip ++ met_text tables m.tip m.met
+-- the half width, and what is met, with the lines of the backtrace of the statement at which it is
+abbrev pub margin_text : Tables → Margin → (backtrace : List ℕ) → List ℕ
+margin_text tables m backtrace = width_text m.tip ++ met_text tables m.tip m.met backtrace

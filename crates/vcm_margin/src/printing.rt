@@ -1,7 +1,7 @@
 //! A margin as text. Nothing here takes memory.
 
 ghost use Rattle.vcm_num.specs.Written.{Wrote};
-ghost use Rattle.vcm_margin.specs.Printed.{place_text, feature_text, difference_text, next_text, state_lines, seen_text, difference_or_home, width_text, wider_text, met_text, margin_text};
+ghost use Rattle.vcm_margin.specs.Printed.{place_text, feature_text, difference_text, next_text, state_lines, reached_text, seen_text, difference_or_home, width_text, wider_text, met_text, margin_text};
 
 use crate::difference::{Difference, Margin, Met, Seen, StatementPlace};
 use itoa::Buffer;
@@ -70,25 +70,43 @@ fn write_state<W: Write>(at: Point, steps: u64, writer: &mut W) -> Result<(), Wr
     write_steps(steps, writer)
 }
 
+// Writes the backtrace of the statement, and where the run then stands.
+fn write_place_reached<W: Write>(
+    seen: &Seen,
+    backtrace: &[u8],
+    writer: &mut W,
+) -> Result<(), WriteFault>
+    ensures { Wrote (W.contents writer.old) (W.contents writer.new) (reached_text seen.now backtrace.now) result }
+{
+    write_all(writer, backtrace)?;
+    write_state(seen.position, seen.steps, writer)
+}
+
 // Writes in what a run differs, and where.
-fn write_seen<W: Write>(tables: &Tables, seen: &Seen, writer: &mut W) -> Result<(), WriteFault>
-    ensures { Wrote (W.contents writer.old) (W.contents writer.new) (seen_text tables.now seen.now) result }
+fn write_seen<W: Write>(
+    tables: &Tables,
+    seen: &Seen,
+    backtrace: &[u8],
+    writer: &mut W,
+) -> Result<(), WriteFault>
+    ensures { Wrote (W.contents writer.old) (W.contents writer.new) (seen_text tables.now seen.now backtrace.now) result }
 {
     write_difference(tables, seen.what, writer)?;
-    write_state(seen.position, seen.steps, writer)
+    write_place_reached(seen, backtrace, writer)
 }
 
 // Writes what is met.
 fn write_difference_or_home<W: Write>(
     tables: &Tables,
     met: &Met,
+    backtrace: &[u8],
     writer: &mut W,
 ) -> Result<(), WriteFault>
-    ensures { Wrote (W.contents writer.old) (W.contents writer.new) (difference_or_home tables.now met.now) result }
+    ensures { Wrote (W.contents writer.old) (W.contents writer.new) (difference_or_home tables.now met.now backtrace.now) result }
 {
     match met {
         Met::Home => write_all(writer, b"P06 HomeNotClear\n"),
-        Met::Behind(seen) => write_seen(tables, seen, writer),
+        Met::Behind(seen) => write_seen(tables, seen, backtrace, writer),
     }
 }
 
@@ -114,29 +132,31 @@ fn write_met<W: Write>(
     tables: &Tables,
     tip: u32,
     met: Option<Met>,
+    backtrace: &[u8],
     writer: &mut W,
 ) -> Result<(), WriteFault>
-    ensures { Wrote (W.contents writer.old) (W.contents writer.new) (met_text tables.now tip met) result }
+    ensures { Wrote (W.contents writer.old) (W.contents writer.new) (met_text tables.now tip met backtrace.now) result }
 {
     match met {
         None => Ok(()),
         Some(met) => {
             write_wider(tip, writer)?;
-            write_difference_or_home(tables, &met, writer)
+            write_difference_or_home(tables, &met, backtrace, writer)
         }
     }
 }
 
-/// Writes a margin: its half width, and what is met with one micrometre more.
+/// Writes a margin: its half width, and what is met with one micrometre more, with the lines of the backtrace of the statement at which it is met.
 ///
 /// Errors: the writer failed, or took no byte; then it has taken a front of the text, and not all of it.
 pub fn write_margin<W: Write>(
     tables: &Tables,
     margin: Margin,
+    backtrace: &[u8],
     writer: &mut W,
 ) -> Result<(), WriteFault>
-    ensures { Wrote (W.contents writer.old) (W.contents writer.new) (margin_text tables.now margin) result }
+    ensures { Wrote (W.contents writer.old) (W.contents writer.new) (margin_text tables.now margin backtrace.now) result }
 {
     write_width(margin.tip, writer)?;
-    write_met(tables, margin.tip, margin.met, writer)
+    write_met(tables, margin.tip, margin.met, backtrace, writer)
 }

@@ -43,7 +43,7 @@ pub record IsPage (texts : Texts) (program : Option (List ℕ)) (notices : List 
 
 -- the view; where memory was refused to the run, nothing was written
 abbrev pub page_view : Texts → RunView
-page_view texts = record { tells = IsPage texts; halted = λ part c n done old new. IsHaltedAfter part c n done × Keeps old new }
+page_view texts = record { tells = IsPage texts; halted = λ program part c n done old new. IsHaltedAfter part c n done × Keeps old new }
 
 -- of two answers to one input, each of which tells something, both tell the same and wrote the same
 abbrev pub PagesAreOne : Type 0

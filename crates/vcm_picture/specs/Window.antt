@@ -54,3 +54,7 @@ abbrev pub window_of : Span → Span → Span → Window
 window_of x y z =
     let most = most_of x y z in
     window_with x y z most (grain_of (longest (full_of x most) (full_of y most) (full_of z most)))
+
+-- a window with another unit of marks and texts
+abbrev pub with_unit : Window → ℤ → Window
+with_unit w unit = record (w) { unit = unit }

@@ -2,7 +2,7 @@
 
 ghost use Rattle.std.specs.Prelude.{◌≡◌, ◌<◌, ◌≤ℤ◌, pos};
 ghost use Rattle.vcm_num.specs.Point.{coordinate};
-ghost use Rattle.vcm_picture.specs.Window.{size, most_of, grown, low_of, full_of, longest, grain_of, unit_of, window_of};
+ghost use Rattle.vcm_picture.specs.Window.{size, most_of, grown, low_of, full_of, longest, grain_of, unit_of, window_of, with_unit};
 ghost use Rattle.vcm_picture.specs.Ranges.{IsMost, IsEdge};
 ghost use Rattle.vcm_svg.specs.Ranges.{IsSize};
 
@@ -67,6 +67,14 @@ impl Window {
         ensures slim { result ≤ℤ pos 17179870 }
     {
         self.unit
+    }
+
+    /// The same window with another unit of marks and texts.
+    pub fn with_unit(self, unit: Unit) -> Window
+        requires { unit ≤ℤ pos 17179870 }
+        ensures { result ≡ with_unit self unit }
+    {
+        Window { unit, ..self }
     }
 }
 

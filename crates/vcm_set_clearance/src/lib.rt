@@ -18,4 +18,4 @@ pub use event::{Change, Event, ProbeWay};
 pub use gathering::SetRun;
 pub use parts::{SetFault, in_strips, parts_of, place_of, run_set, run_set_at};
 pub use rooms::{is_turn, room_of, standing, swing_room, told_at_turn, told_of};
-pub use writing::{SetText, set_text};
+pub use writing::{SetText, Spot, set_text};

@@ -16,11 +16,19 @@ use vcm_probe_set::{Body, Probe, ProbeSet};
 use vcm_report::{write_end_line, write_point};
 use vcm_turning::{Ended, NoProbe};
 
-/// Where text goes, with the names of blocks that are left.
+/// A place of a text, behind so many bytes, below which the backtrace of the statement of a step may be told.
+#[derive(Clone, Copy)]
+pub struct Spot {
+    pub at: usize,
+    pub step: u64,
+}
+
+/// Where text goes, with the names of blocks that are left, and the places at which steps are told.
 #[derive(Drop)]
 struct Sheet<'a> {
     out: &'a mut Vec<u8>,
     names: &'a mut BlockNames,
+    spots: &'a mut Vec<Spot>,
 }
 
 /// What is told of: the workpiece, the probes, and what the run came to.
@@ -76,7 +84,17 @@ impl<'a> Sheet<'a> {
         self.point(b" position ", told.contact.at)?;
         write_all(self.out, b"\n")?;
         self.names
-            .write_once(Some(told.contact.hit.block), self.out)
+            .write_once(Some(told.contact.hit.block), self.out)?;
+        self.spot(told.step)
+    }
+
+    // Notes that a step is told here.
+    fn spot(&mut self, step: u64) -> Result<(), WriteFault> {
+        let at = self.out.len();
+        match self.spots.push(Spot { at, step }) {
+            Ok(()) => Ok(()),
+            Err(_) => Err(WriteFault),
+        }
     }
 }
 
@@ -294,10 +312,12 @@ fn write_run(
     write_end(sheet, tables, run)
 }
 
-/// What a run with several probes came to, as `vcm clearance` prints it, and whether a body meets a block, or the pivot lies beyond its limits.
+/// What a run with several probes came to, as `vcm clearance` prints it, the places of contacts in it, in their order, and whether a body meets a block, or the pivot lies beyond its
+/// limits.
 #[derive(Drop)]
 pub struct SetText {
     pub text: Vec<u8>,
+    pub spots: Vec<Spot>,
     pub is_met: bool,
 }
 
@@ -317,6 +337,7 @@ pub fn set_text(
     let report = report_of(alloc, set, blocks, run)?;
     let mut names = BlockNames::new(alloc, block_names)?;
     let mut text = Vec::new(alloc);
+    let mut spots = Vec::new(alloc);
     let known = Known {
         blocks,
         set,
@@ -325,11 +346,16 @@ pub fn set_text(
     let mut sheet = Sheet {
         out: &mut text,
         names: &mut names,
+        spots: &mut spots,
     };
     match write_run(&mut sheet, known, untried, tables, run) {
         Ok(()) => {
             let is_met = report.is_met();
-            Ok(SetText { text, is_met })
+            Ok(SetText {
+                text,
+                spots,
+                is_met,
+            })
         }
         Err(_) => Err(NoMemory),
     }

@@ -1,5 +1,6 @@
 -- One step that goes on behind a contact, and the turn behind it.
 use Rattle.std.proofs.Common.{◌≡◌, ℕ, ◌+◌, Bool, true, false, List, [], ◌∷◌, slice_get, Option, Some, None, refl, sym, ap, ◌∙◌, subst}
+use Rattle.std.specs.Prelude.{option_to_list}
 use Rattle.vcm_spec.specs.declared.stop.Stop.{Stop}
 use Rattle.vcm_spec.specs.declared.stop.Stop.TheVariants.{Collision}
 use Rattle.vcm_spec.specs.declared.stop.StopPlace.{StopPlace}
@@ -18,7 +19,7 @@ use Rattle.vcm_contacts.specs.declared.contact.Contact.{Contact}
 use Rattle.vcm_contacts.specs.Passing.{Passed, passed_by, passed_at, pass}
 use Rattle.vcm_set_contacts.specs.declared.found.Lost.{Lost}
 use Rattle.vcm_set_contacts.specs.Passing.{rests, turned_behind, turned_pass_at, turned_pass}
-use Rattle.vcm_set_contacts.specs.inner.Standing.{listed, contact_at, part_of, moved, IsStopping, IsLed, HasMet, HasStepped, HasPassedOne, IsLostHere}
+use Rattle.vcm_set_contacts.specs.inner.Standing.{contact_at, part_of, moved, IsStopping, IsLed, HasMet, HasStepped, HasPassedOne, IsLostHere}
 
 abbrev told : CodeState → List Contact → Passed
 told m cs = record { state = m; contacts = cs }
@@ -38,13 +39,13 @@ module _ (m : Turner) (s : CodeStatement) (running : m.state.world.stop ≡ None
       new_is = h.1 ∙ ap (moved m) (sym (ap (λ (x : Turner). x.state) h.1));
       passed = pass_is (Some (Collision phase hit)) (ap (λ (x : CodeState). reason x.world.stop) e)
           ∙ ap (λ (x : Turner). told x.state (contact_at m phase hit s ∷ [])) (sym h.1)
-          ∙ ap (λ (o : Option Contact). told new.state (listed o)) (sym h.0);
+          ∙ ap (λ (o : Option Contact). told new.state (option_to_list o)) (sym h.0);
     }
     led_behind why e h = record {
       new_is = h.1 ∙ ap (moved m) (sym (ap (λ (x : Turner). x.state) h.1));
       passed = pass_is (Some why) (ap (λ (x : CodeState). reason x.world.stop) e)
           ∙ ap (λ (x : CodeState). told x []) (e ∙ sym (ap (λ (x : Turner). x.state) h.1))
-          ∙ ap (λ (o : Option Contact). told new.state (listed o)) (sym h.0);
+          ∙ ap (λ (o : Option Contact). told new.state (option_to_list o)) (sym h.0);
     }
 
 -- it went on
@@ -104,7 +105,7 @@ module _ (old : Turner) (s : CodeStatement) (running : old.state.world.stop ≡ 
 
   -- else it is a step
   pub stepped_one : is_lost old.part.bounds.home old.probes old.variable t s.op ≡ false → (met : Option Contact) (new : Turner) → HasStepped old met new
-      → HasPassedOne old (listed met) new
+      → HasPassedOne old (option_to_list met) new
   stepped_one e met new h =
       let mid = h.between in
       let is = h.has_met.new_is in
@@ -117,7 +118,7 @@ module _ (old : Turner) (s : CodeStatement) (running : old.state.world.stop ≡ 
         variable_is = ap (λ (x : Turner). x.variable) h.new_is ∙ variable_kept mid put ∙ ap (λ (x : Turner). x.variable) is;
         code_is = ap (λ (x : Turner). x.code) h.new_is ∙ code_kept mid put ∙ ap (λ (x : Turner). x.code) is;
         passed = pass_by false e ∙ ap (turned_behind old.probes old.variable old.on) h.has_met.passed
-            ∙ ap (λ (x : Turned). record { turned = x; steps = 1; contacts = listed met }) (sym turned_is);
+            ∙ ap (λ (x : Turned). record { turned = x; steps = 1; contacts = option_to_list met }) (sym turned_is);
       }
 
 -- the chosen probe is put on, unless the step has stopped

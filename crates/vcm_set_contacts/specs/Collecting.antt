@@ -8,9 +8,11 @@ use Rattle.vcm_steps.specs.declared.fault.Unfinished.TheVariants.{NoMemory, Memo
 use Rattle.vcm_probe_set.specs.Probes.{Probe}
 use Rattle.vcm_turning.specs.declared.ended.NoProbe.{NoProbe}
 use Rattle.vcm_turning.specs.Machine.{carrier}
-use Rattle.vcm_contacts.specs.declared.contact.Contact.{Contact}
+use Rattle.vcm_backtrace.specs.Sources.{Sourced}
+use Rattle.vcm_contacts.specs.Noted.{Found}
 use Rattle.vcm_set_contacts.specs.declared.found.Lost.{Lost}
 use Rattle.vcm_set_contacts.specs.declared.found.PassedEnd.{PassedEnd}
+use Rattle.vcm_set_contacts.specs.Noted.{set_found}
 use Rattle.vcm_set_contacts.specs.Passing.{SetPassed, set_passed_after}
 
 -- why a run has ended without a probe, if it has, and before which step: the one behind those that were taken
@@ -22,9 +24,9 @@ lost_behind steps None = None
 abbrev pub end_of : SetPassed → PassedEnd
 end_of p = record { stop = p.turned.state.world.stop; lost = lost_behind p.steps p.turned.ended }
 
--- these are the contacts of a run for n steps that goes on behind each, and so it ended
-pub record AreSetContacts (part : Workpiece) (ps : List Probe) (variable : ℕ) (c : Code) (n : ℕ) (contacts : List Contact) (end : PassedEnd) : Type 0 where
-  pub contacts_are : contacts ≡ (set_passed_after part ps variable c n).contacts
+-- these are the contacts of a run for n steps that goes on behind each, of a code with this source, if it has one, and so it ended
+pub record AreSetContacts (s : Option Sourced) (part : Workpiece) (ps : List Probe) (variable : ℕ) (c : Code) (n : ℕ) (found : List Found) (end : PassedEnd) : Type 0 where
+  pub found_are : found ≡ set_found s part ps variable c n
   pub end_is : end ≡ end_of (set_passed_after part ps variable c n)
 
 -- memory was refused for the contacts of such a run; or behind so many of its steps, to a statement that makes an output line and would not stop

@@ -1,4 +1,5 @@
 pub mod Passing
+pub mod Noted
 pub mod Collecting
 pub mod Laws
 pub mod Samples

@@ -1,6 +1,6 @@
 //! What is found in a run.
 
-use vcm_contacts::Contact;
+use vcm_contacts::FoundContact;
 use vcm_spec::StopPlace;
 use vcm_turning::NoProbe;
 
@@ -21,6 +21,6 @@ pub struct PassedEnd {
 /// The contacts of a run in their order, and how it ended.
 #[derive(Drop)]
 pub struct SetContacts {
-    pub contacts: Vec<Contact>,
+    pub found: Vec<FoundContact>,
     pub end: PassedEnd,
 }

@@ -1,7 +1,7 @@
 -- What was seen of the steps of a run.
 use Rattle.std.proofs.Common.{◌≡◌, List, [], ◌∷◌, ◌++◌, refl, sym, ap, subst, ◌∙◌, append_assoc}
 use Rattle.std.proofs.lemmas.List.{append-nil}
-use Rattle.std.specs.Prelude.{ℕ, flat_map, Option, Result, Ok, Err, IfOk}
+use Rattle.std.specs.Prelude.{ℕ, flat_map, map, Option, Result, Ok, Err, IfOk}
 use Rattle.vcm_spec.specs.declared.stop.Stop.{Stop}
 use Rattle.vcm_spec.specs.Workpiece.{Workpiece}
 use Rattle.vcm_spec.specs.World.{World}
@@ -22,6 +22,7 @@ use Rattle.vcm_cause.specs.Behind.{Behind}
 use Rattle.vcm_marks.specs.declared.mark.PlacedMark.{PlacedMark}
 use Rattle.vcm_way.specs.Ways.{Kept}
 use Rattle.vcm_way.specs.Keeping.{StandsFor}
+use Rattle.vcm_trace.specs.Framed.{Frames, FramedStep, framed_step, frames_with, framed}
 use Rattle.vcm_set_views.specs.Drawn.{placed_turned}
 use Rattle.vcm_set_views.specs.Chains.{Chain}
 use Rattle.vcm_set_views.specs.Reasons.{one_behind, known_behind}
@@ -49,6 +50,19 @@ chain_texts items text part ps from to (s ∷ ss) h =
     chain_texts items text part ps h.0 to ss h.2
     ∙ ap (λ l. l ++ flat_map (λ s. text s (turned_marks part ps s)) ss) h.1
     ∙ append_assoc (items from) (text s (turned_marks part ps s)) (flat_map (λ s. text s (turned_marks part ps s)) ss)
+
+-- where each adds a row, by the frames in which features were declared before it, and keeps these, all rows were added
+pub chain_rows : {To : Type 0} → (items : To → List ℕ) (frames : To → Frames) (row : FramedStep → List ℕ) (part : Workpiece) (ps : List Probe) (from to : To) (ss : List TurnedStep)
+    → Chain (λ a b s marks. (items b ≡ items a ++ row (framed_step (frames a) s.passage)) × (frames b ≡ frames_with (frames a) s.passage)) part ps from to ss
+    → items to ≡ items from ++ flat_map row (framed (frames from) (map (λ s. s.passage) ss))
+chain_rows items frames row part ps from to [] h = ap items (sym h) ∙ sym (append-nil (items from))
+chain_rows items frames row part ps from to (s ∷ ss) h =
+    let rest = λ (fs : Frames). flat_map row (framed fs (map (λ (t : TurnedStep). t.passage) ss)) in
+    let here = row (framed_step (frames from) s.passage) in
+    chain_rows items frames row part ps h.0 to ss h.2
+    ∙ ap (λ l. l ++ rest (frames h.0)) h.1.0
+    ∙ ap (λ fs. (items from ++ here) ++ rest fs) h.1.1
+    ∙ append_assoc (items from) here (rest (frames_with (frames from) s.passage))
 
 -- where each adds marks to what stands for the way, it stands for all of it
 pub chain_kept : (part : Workpiece) (ps : List Probe) (from to : Kept) (ss : List TurnedStep) (whole : List PlacedMark)

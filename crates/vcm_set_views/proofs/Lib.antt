@@ -1,3 +1,4 @@
+pub mod Backtraced
 pub mod Opened
 pub mod Chaining
 pub mod Ended

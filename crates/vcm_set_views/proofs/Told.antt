@@ -14,7 +14,7 @@ use Rattle.vcm_turning.specs.declared.ended.Ran.{Ran}
 use Rattle.vcm_turning.specs.Choosing.{probe_on, part_by}
 use Rattle.vcm_turning.specs.Turning.{Turned}
 use Rattle.vcm_turning.specs.Machine.{Turner, TurningEnded, HasRunTurned}
-use Rattle.vcm_why.specs.Origins.{Traced}
+use Rattle.vcm_backtrace.specs.Sources.{Sourced}
 use Rattle.vcm_why.specs.Reasons.{where_lines}
 use Rattle.vcm_set_views.specs.declared.ends.SetEnd.{SetEnd}
 use Rattle.vcm_set_views.specs.declared.running.Ending.{Ending}
@@ -53,7 +53,7 @@ pub held_is : (h : Held) (tables : Tables) (state : World) → h.tables ≡ tabl
 held_is h tables state e s = ap (λ (t : Tables). record { tables = t; state = h.state }) e ∙ ap (λ (w : World). record { tables = tables; state = w }) s
 
 -- what is told of a run that ended without a probe
-pub lost_is : (names : List (List ℕ)) (t : Option Traced) (f : Fit) (e : SetEnd) (number at : ℕ) (l : NoProbe) (held : Held) (rounds : List ℕ) (on : Option ℕ) → held ≡ held_at f e.done
+pub lost_is : (names : List (List ℕ)) (t : Option Sourced) (f : Fit) (e : SetEnd) (number at : ℕ) (l : NoProbe) (held : Held) (rounds : List ℕ) (on : Option ℕ) → held ≡ held_at f e.done
     → rounds ≡ (known_at f e.done).rounds → number ≡ at → on ≡ (behind f e.done).on
     → no_probe_line l (e.done + 1) ++ (where_lines t f.code.statements held rounds number l.line ++ wanting_line l (probe_on f.probes on)) ≡ reason_lines names t f e at (end.Lost l)
 lost_is names t f e number at l held rounds on eh er en eo =

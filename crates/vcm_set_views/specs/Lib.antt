@@ -4,6 +4,7 @@ pub mod Ends
 pub mod Rows
 pub mod Result
 pub mod Reasons
+pub mod Backtraces
 pub mod Story
 pub mod Drawn
 pub mod Contacts

@@ -12,8 +12,7 @@ use Rattle.vcm_turning.specs.declared.ended.Ended.{Ended}
 use Rattle.vcm_turning.specs.declared.ended.Ended.TheVariants.{Lost}
 use Rattle.vcm_turning.specs.Choosing.{probe_on}
 use Rattle.vcm_turning.specs.Steps.{TurnedStep, turned_marks}
-use Rattle.vcm_why.specs.Origins.{Traced}
-use Rattle.vcm_why.specs.Telling.{IsTraced}
+use Rattle.vcm_backtrace.specs.Sources.{Sourced, IsSourced}
 use Rattle.vcm_why.specs.Reasons.{where_lines, why_lines}
 use Rattle.vcm_set_views.specs.declared.ends.SetEnd.{SetEnd}
 use Rattle.vcm_set_views.specs.Ends.{no_probe_line}
@@ -54,7 +53,7 @@ abbrev pub held_at : Fit → ℕ → Held
 held_at f n = record { tables = f.code.tables; state = (behind f n).state.world }
 
 -- of a run that ended without a probe: before which step, where its statement comes from, and which probe is on; of another one what is told of its stop
-abbrev pub reason_lines : List (List ℕ) → Option Traced → Fit → SetEnd → (number : ℕ) → Ended → List ℕ
+abbrev pub reason_lines : List (List ℕ) → Option Sourced → Fit → SetEnd → (number : ℕ) → Ended → List ℕ
 reason_lines names t f e number (Lost l) =
     no_probe_line l (e.done + 1)
     ++ (where_lines t f.code.statements (held_at f e.done) (known_at f e.done).rounds number l.line ++ wanting_line l (probe_on f.probes (behind f e.done).on))
@@ -62,6 +61,6 @@ reason_lines names t f e number end = why_lines names t (part_behind f e.done) f
 
 -- all that is told of a run that ended so, of a code from this text or from none, beside blocks with these names
 pub record IsReason (names : List (List ℕ)) (text : Option (List ℕ)) (f : Fit) (e : SetEnd) (told : List ℕ) : Type 0 where
-  pub traced : Option Traced
-  pub is_traced : IsTraced text (behind f e.done).state.next traced
+  pub traced : Option Sourced
+  pub is_traced : IsSourced text traced
   pub told_is : told ≡ reason_lines names traced f e (behind f e.done).state.next e.end

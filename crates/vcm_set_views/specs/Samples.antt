@@ -4,15 +4,15 @@ use Rattle.std.specs.Fmt.{digits}
 use Rattle.vcm_spec.specs.declared.words.MovePhase.TheVariants.{Move}
 use Rattle.vcm_spec.specs.Setup.{Tables}
 use Rattle.vcm_report.specs.Printed.{in_a_row}
-use Rattle.vcm_contacts.specs.declared.contact.Contact.{Contact}
+use Rattle.vcm_contacts.specs.Noted.{Found}
 use Rattle.vcm_set_contacts.specs.declared.found.PassedEnd.{PassedEnd}
 use Rattle.vcm_set_views.specs.Contacts.{found_text}
 
 abbrev tables : Tables
 tables = record { variables = []; features = []; frames = [] }
 
-abbrev contact : Contact
-contact = record { phase = Move; hit = record { block = 1; permille = 904 }; number = 1; line = 5 }
+abbrev contact : Found
+contact = record { contact = record { phase = Move; hit = record { block = 1; permille = 904 }; number = 1; line = 5 }; backtrace = [] }
 
 -- a run that ends without a probe before its eighth step
 abbrev lost : PassedEnd

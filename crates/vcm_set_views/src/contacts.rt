@@ -1,16 +1,19 @@
 //! All contacts of a run with several probes.
 
-ghost use Rattle.std.specs.Prelude.{◌≡◌, ◌++◌, map, IfOk};
+ghost use Rattle.std.specs.Prelude.{◌≡◌, ◌++◌, map, option_map, IfOk};
 ghost use Rattle.vcm_num.specs.Written.{Wrote};
+ghost use Rattle.vcm_contacts.specs.Noted.{seen};
 ghost use Rattle.vcm_contacts.specs.Printed.{count_line};
 ghost use Rattle.vcm_turning.specs.Choosing.{tipped};
 ghost use Rattle.vcm_set_contacts.specs.Collecting.{AreSetContacts};
 ghost use Rattle.vcm_set_views.specs.Contacts.{passed_end_line, found_text, AreContactsTold};
 
 use crate::fitted::Fitted;
+use crate::reasons::source_in;
 use std::alloc::Global;
 use std::io::Write;
-use vcm_contacts::{Contact, write_count, write_each};
+use vcm_backtrace::Source;
+use vcm_contacts::{FoundContact, write_count, write_each};
 use vcm_items::Tables;
 use vcm_motion::{AnyPart, Part};
 use vcm_naming::BlockNames;
@@ -47,12 +50,12 @@ fn write_passed_end<W: Write>(
 // Writes how many contacts there are, and how the run ended.
 fn write_rest<W: Write>(
     tables: &Tables,
-    contacts: &[Contact],
+    contacts: &[FoundContact],
     end: PassedEnd,
     steps: u64,
     writer: &mut W,
 ) -> Result<(), WriteFault>
-    ensures { Wrote (W.contents writer.old) (W.contents writer.new) (count_line contacts.now ++ passed_end_line tables.now end steps) result }
+    ensures { Wrote (W.contents writer.old) (W.contents writer.new) (count_line (map seen contacts.now) ++ passed_end_line tables.now end steps) result }
 {
     write_count(contacts, writer)?;
     write_passed_end(tables, end, steps, writer)
@@ -61,13 +64,13 @@ fn write_rest<W: Write>(
 // Writes the contacts of a run for so many steps, with the names of their blocks, how many they are, and how the run ended.
 fn write_found<W: Write>(
     tables: &Tables,
-    contacts: &[Contact],
+    contacts: &[FoundContact],
     end: PassedEnd,
     steps: u64,
     names: &mut BlockNames,
     writer: &mut W,
 ) -> Result<(), WriteFault>
-    ensures { Wrote (W.contents writer.old) (W.contents writer.new) (found_text names.old tables.now contacts.now end steps) result }
+    ensures { Wrote (W.contents writer.old) (W.contents writer.new) (found_text names.old tables.now (map seen contacts.now) end steps) result }
 {
     write_each(contacts, names, writer)?;
     write_rest(tables, contacts, end, steps, writer)
@@ -77,13 +80,14 @@ fn write_found<W: Write>(
 fn contacts_beside<P: Part>(
     alloc: Global,
     fitted: &Fitted<'_>,
+    source: &Option<Source<'_>>,
     own: &P,
     parts: &[P],
     steps: u64,
 ) -> Result<SetContacts, NoMemory>
     requires tie { P.part own.now ≡ fitted.now.part }
     requires ties { map P.part parts.now ≡ map (λ p. tipped fitted.now.part p.tip) fitted.now.probes }
-    ensures { IfOk result (λ x. AreSetContacts fitted.now.part fitted.now.probes fitted.now.variable fitted.now.code steps x.contacts.items x.end) }
+    ensures { IfOk result (λ x. AreSetContacts source.now fitted.now.part fitted.now.probes fitted.now.variable fitted.now.code steps (map seen x.found.items) x.end) }
 {
     let Fitted {
         loaded,
@@ -94,37 +98,44 @@ fn contacts_beside<P: Part>(
     } = *fitted;
     let each = fitted.each.as_slice();
     let mut machine = Turning::new(alloc, loaded, set, own, part, parts, each, variable)?;
-    match collect_set_contacts(alloc, loaded, &mut machine, steps) {
+    match collect_set_contacts(alloc, loaded, source, &mut machine, steps) {
         Ok(found) => Ok(found),
         Err(_) => Err(NoMemory),
     }
 }
 
 // The contacts of a run.
-fn contacts_of(alloc: Global, fitted: &Fitted<'_>, steps: u64) -> Result<SetContacts, NoMemory>
-    ensures { IfOk result (λ x. AreSetContacts fitted.now.part fitted.now.probes fitted.now.variable fitted.now.code steps x.contacts.items x.end) }
+fn contacts_of(
+    alloc: Global,
+    fitted: &Fitted<'_>,
+    source: &Option<Source<'_>>,
+    steps: u64,
+) -> Result<SetContacts, NoMemory>
+    ensures { IfOk result (λ x. AreSetContacts source.now fitted.now.part fitted.now.probes fitted.now.variable fitted.now.code steps (map seen x.found.items) x.end) }
 {
     let parts = in_strips(alloc, &fitted.each)?;
     let own = AnyPart::of(alloc, fitted.part)?;
-    contacts_beside(alloc, fitted, &own, &parts, steps)
+    contacts_beside(alloc, fitted, source, &own, &parts, steps)
 }
 
-/// All contacts of a run for at most so many steps that goes on behind each, a line for each, below the first of a block the block's name, if it has one; how many they
-/// are, that what stands behind the first is a guess, and how the run ended.
+/// All contacts of a run for at most so many steps that goes on behind each, of a code from this text, or of an image, which has none: a line for each, below the first of a
+/// block the block's name, if it has one, and below each the backtrace of its statement; how many they are, that what stands behind the first is a guess, and how the run ended.
 ///
 /// Errors: want of memory.
 pub fn set_contacts(
     alloc: Global,
     fitted: &Fitted<'_>,
     steps: u64,
+    text: Option<&[u8]>,
     names: &mut BlockNames,
 ) -> Result<ContactsTold, NoMemory>
-    ensures { IfOk result (AreContactsTold names.old fitted.now steps) }
+    ensures { IfOk result (AreContactsTold names.old (option_map (λ t. t.now) text.entry) fitted.now steps) }
 {
-    let found = contacts_of(alloc, fitted, steps)?;
+    let source = source_in(alloc, text)?;
+    let found = contacts_of(alloc, fitted, &source, steps)?;
     let tables = fitted.loaded.tables(alloc)?;
     let mut text = Vec::new(alloc);
-    let (contacts, end) = (found.contacts.as_slice(), found.end);
+    let (contacts, end) = (found.found.as_slice(), found.end);
     match write_found(&tables, contacts, end, steps, names, &mut text) {
         Ok(()) => Ok(ContactsTold {
             text,

@@ -2,6 +2,7 @@
 //! its contacts, and its story; and sessions of the debugger on it. Boxes and swing of the probes aren't tried here.
 #![tactic(auto)]
 
+mod backtraces;
 mod beside;
 mod contacts;
 mod debugging;
@@ -16,13 +17,14 @@ mod rows;
 mod running;
 mod story;
 
+pub use backtraces::set_backtraces;
 pub use contacts::{ContactsTold, set_contacts};
 pub use debugging::{SetServeFault, debug_set};
 pub use drawn::set_picture;
 pub use ends::{SetEnd, SetTold};
 pub use fitted::{Fitted, fit, fit_at};
 pub use following::SeesSteps;
-pub use reasons::set_why;
+pub use reasons::{set_why, write_wanted};
 pub use result::set_result;
 pub use rows::{set_points, set_trace};
 pub use running::{Ending, run_seen};

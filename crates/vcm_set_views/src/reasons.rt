@@ -8,7 +8,7 @@ ghost use Rattle.vcm_why.specs.Reasons.{where_lines};
 ghost use Rattle.vcm_set_views.specs.Ends.{HasEnded, IsAtEnd, no_probe_line};
 ghost use Rattle.vcm_set_views.specs.Fit.{behind};
 ghost use Rattle.vcm_set_views.specs.Reasons.{one_behind, known_at, wanted_text, on_text, wanting_line, reason_lines, IsReason};
-ghost use Rattle.vcm_why.specs.Telling.{IsTraced};
+ghost use Rattle.vcm_backtrace.specs.Sources.{IsSourced};
 
 use crate::ends::SetTold;
 use crate::fitted::Fitted;
@@ -16,6 +16,7 @@ use crate::following::SeesSteps;
 use crate::running::{Ending, run_seen};
 use std::alloc::Global;
 use std::io::Write;
+use vcm_backtrace::{Source, source_of};
 use vcm_cause::{Progress, before_steps, count_round, framed_behind};
 use vcm_fields::BorrowedStatement;
 use vcm_loader::Loaded;
@@ -27,7 +28,7 @@ use vcm_set_debug::write_no_probe;
 use vcm_state::World;
 use vcm_turning::{Ended, NoProbe, Turn, probe_on};
 use vcm_way::StepMarks;
-use vcm_why::{Origin, origin_of, write_where, write_why};
+use vcm_why::{write_where, write_why};
 
 /// Watches a run: what the last step adds to the way, the rounds of its loops, and which statement made the current frame.
 #[derive(Clone, Copy)]
@@ -56,8 +57,10 @@ impl SeesSteps<Progress> for Watching {
     }
 }
 
-// Writes that no probe has a number.
-fn write_wanted<W: Write>(lost: NoProbe, writer: &mut W) -> Result<(), WriteFault>
+/// Writes that no probe has a number.
+///
+/// Errors: the writer failed, or took no byte; then it has taken a front of the text, and not all of it.
+pub fn write_wanted<W: Write>(lost: NoProbe, writer: &mut W) -> Result<(), WriteFault>
     ensures { Wrote (W.contents writer.old) (W.contents writer.new) (wanted_text lost.value) result }
 {
     write_all(writer, b"no probe has the number ")?;
@@ -108,7 +111,7 @@ pub(crate) fn part_at<'a>(fitted: &'a Fitted<'_>, on: Option<usize>) -> &'a Part
 fn write_lost<W: Write>(
     loaded: &Loaded<'_>,
     probes: &[Probe],
-    origin: &Option<Origin<'_>>,
+    source: &Option<Source<'_>>,
     ending: &Ending,
     progress: &Progress,
     lost: NoProbe,
@@ -117,12 +120,12 @@ fn write_lost<W: Write>(
     requires within { ending.now.next < length loaded.now.statements }
     requires few { ending.now.end.done < 2 ^ 64 - 1 }
     ensures { Wrote (W.contents writer.old) (W.contents writer.new) (no_probe_line lost (ending.now.end.done + 1)
-        ++ (where_lines origin.now loaded.now.statements ending.now.world progress.now.rounds ending.now.next lost.line
+        ++ (where_lines source.now loaded.now.statements ending.now.world progress.now.rounds ending.now.next lost.line
         ++ wanting_line lost (probe_on probes.now ending.now.on))) result }
 {
     write_no_probe(lost, ending.end.done + 1, writer)?;
     write_where(
-        origin,
+        source,
         loaded,
         &ending.world,
         &progress.rounds,
@@ -136,7 +139,7 @@ fn write_lost<W: Write>(
 // Writes what is told of a run that came to this end, in which this is known.
 fn write_reason<W: Write>(
     fitted: &Fitted<'_>,
-    origin: &Option<Origin<'_>>,
+    source: &Option<Source<'_>>,
     ending: &Ending,
     progress: &Progress,
     names: &BlockNames,
@@ -145,20 +148,20 @@ fn write_reason<W: Write>(
     requires end { (n : ℕ) × (n < 2 ^ 64) × IsAtEnd fitted.now n ending.now }
     requires known { seen progress.now ≡ known_at fitted.now ending.now.end.done }
     ensures { Wrote (W.contents writer.old) (W.contents writer.new)
-        (reason_lines names.now origin.now fitted.now ending.now.end (behind fitted.now ending.now.end.done).state.next ending.now.end.end) result }
+        (reason_lines names.now source.now fitted.now ending.now.end (behind fitted.now ending.now.end.done).state.next ending.now.end.end) result }
 {
     match ending.end.end {
         Ended::Lost(lost) => write_lost(
             fitted.loaded,
             fitted.set.probes(),
-            origin,
+            source,
             ending,
             progress,
             lost,
             writer,
         ),
         _ => write_why(
-            origin,
+            source,
             fitted.loaded,
             part_at(fitted, ending.on),
             &ending.world,
@@ -171,18 +174,14 @@ fn write_reason<W: Write>(
     }
 }
 
-// Where a statement comes from in a text, if there is one.
-fn origin_in(
-    alloc: Global,
-    text: Option<&[u8]>,
-    number: u32,
-) -> Result<Option<Origin<'_>>, NoMemory>
-    ensures { IfOk result (λ o. IsTraced (option_map (λ t. t.now) text.entry) number o) }
+/// The source that a text is, if there is one.
+pub(crate) fn source_in(alloc: Global, text: Option<&[u8]>) -> Result<Option<Source<'_>>, NoMemory>
+    ensures { IfOk result (λ s. IsSourced (option_map (λ t. t.now) text.entry) s) }
 {
     match text {
         None => Ok(None),
-        Some(text) => match origin_of(alloc, text, number) {
-            Ok(origin) => Ok(Some(origin)),
+        Some(text) => match source_of(alloc, text) {
+            Ok(source) => Ok(Some(source)),
             // The text of a program that was built is refused for want of memory alone.
             Err(_) => Err(NoMemory),
         },
@@ -204,9 +203,9 @@ pub fn set_why(
 {
     let mut progress = before_steps();
     let ending = run_seen(alloc, fitted, steps, &Watching, &mut progress)?;
-    let origin = origin_in(alloc, text, ending.next)?;
+    let source = source_in(alloc, text)?;
     let mut told = Vec::new(alloc);
-    match write_reason(fitted, &origin, &ending, &progress, names, &mut told) {
+    match write_reason(fitted, &source, &ending, &progress, names, &mut told) {
         Ok(()) => Ok(SetTold {
             text: told,
             end: ending.end,

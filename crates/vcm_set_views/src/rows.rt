@@ -1,25 +1,37 @@
 //! The trace and the measured points of a run with several probes.
 
-ghost use Rattle.std.specs.Prelude.{◌≡◌, ◌<◌, ◌++◌, ◌-◌, ◌^◌, ℕ, length, slice_get, IfOk};
+ghost use Rattle.std.specs.Prelude.{◌≡◌, ◌<◌, ◌++◌, ◌-◌, ◌^◌, ℕ, [], length, slice_get, option_map, IfOk};
+ghost use Rattle.vcm_trace.specs.Framed.{framed_step, frames_with, no_frames};
 ghost use Rattle.vcm_num.specs.Written.{Wrote};
 ghost use Rattle.vcm_set_views.specs.Ends.{HasEnded, IsAtEnd};
 ghost use Rattle.vcm_set_views.specs.Fit.{steps_of};
-ghost use Rattle.vcm_set_views.specs.Rows.{rows_of, open_row, lost_row, last_row, trace_of, points_of};
+ghost use Rattle.vcm_set_views.specs.Rows.{rows_of, open_row, lost_row, last_row, trace_of, ArePoints};
 
 use crate::ends::SetTold;
 use crate::fitted::Fitted;
 use crate::following::SeesSteps;
+use crate::reasons::source_in;
 use crate::running::{Ending, run_seen};
 use std::alloc::Global;
 use std::io::Write;
+use vcm_backtrace::CallFields;
 use vcm_fields::BorrowedStatement;
 use vcm_loader::Loaded;
 use vcm_num::{NoMemory, WriteFault};
 use vcm_set_debug::write_no_probe;
 use vcm_state::World;
-use vcm_trace::{PointRows, TraceRows, WritesRows, write_front, write_open};
+use vcm_trace::{
+    Frames, PointRows, TraceRows, WritesRows, keep_frame, no_frames, write_front, write_open,
+};
 use vcm_turning::{Ended, NoProbe, Turn};
 use vcm_way::StepMarks;
+
+/// The text so far, and the frames in which features were declared.
+#[derive(Drop)]
+struct Rowed {
+    text: Vec<u8>,
+    frames: Frames,
+}
 
 /// Writes the row of each step.
 #[derive(Clone, Copy)]
@@ -27,8 +39,9 @@ struct RowsOf<'a, F> {
     by: &'a F,
 }
 
-impl<F: WritesRows<Vec<u8>>> SeesSteps<Vec<u8>> for RowsOf<'_, F> {
-    ghost One = { λ s tables from to step marks. to.items ≡ from.items ++ (F.Rows s.by.now).row tables step.passage };
+impl<F: WritesRows<Vec<u8>>> SeesSteps<Rowed> for RowsOf<'_, F> {
+    ghost One = { λ s tables from to step marks. (to.text.items ≡ from.text.items ++ (F.Rows s.by.now).row tables (framed_step from.frames step.passage))
+        × (to.frames ≡ frames_with from.frames step.passage) };
 
     fn see(
         &self,
@@ -40,13 +53,35 @@ impl<F: WritesRows<Vec<u8>>> SeesSteps<Vec<u8>> for RowsOf<'_, F> {
         next: u32,
         _turn: Turn,
         _marks: &StepMarks,
-        to: &mut Vec<u8>,
+        to: &mut Rowed,
     ) -> Result<(), NoMemory> {
-        match self.by.write_row(count, number, statement, world, next, to) {
-            Ok(()) => Ok(()),
+        match self.by.write_row(
+            &to.frames,
+            count,
+            number,
+            statement,
+            world,
+            next,
+            &mut to.text,
+        ) {
+            Ok(()) => {
+                keep_frame(&mut to.frames, statement, world);
+                Ok(())
+            }
             Err(_) => Err(NoMemory),
         }
     }
+}
+
+// An empty text, where no feature is declared.
+fn no_rows(alloc: Global, fitted: &Fitted<'_>) -> Result<Rowed, NoMemory>
+    ensures text { IfOk result (λ r. r.text.items ≡ []) }
+    ensures frames { IfOk result (λ r. r.frames ≡ no_frames fitted.now.code.tables) }
+{
+    let tables = fitted.loaded.tables(alloc)?;
+    let frames = no_frames(alloc, tables.features().len())?;
+    let text = Vec::new(alloc);
+    Ok(Rowed { text, frames })
 }
 
 // Runs, and adds what stands before the steps and the row of each to a text.
@@ -55,13 +90,14 @@ fn add_rows<F: WritesRows<Vec<u8>>>(
     fitted: &Fitted<'_>,
     steps: u64,
     by: &F,
-    text: &mut Vec<u8>,
+    rowed: &mut Rowed,
 ) -> Result<Ending, NoMemory>
+    requires { rowed.old.frames ≡ no_frames fitted.now.code.tables }
     ensures end { IfOk result (IsAtEnd fitted.now steps) }
-    ensures text { IfOk result (λ e. text.new.items ≡ text.old.items ++ rows_of (F.Rows by.now) fitted.now.code.tables (steps_of fitted.now e.end.done)) }
+    ensures text { IfOk result (λ e. rowed.new.text.items ≡ rowed.old.text.items ++ rows_of (F.Rows by.now) fitted.now.code.tables (steps_of fitted.now e.end.done)) }
 {
-    match by.write_before(text) {
-        Ok(()) => run_seen(alloc, fitted, steps, &RowsOf { by }, text),
+    match by.write_before(&mut rowed.text) {
+        Ok(()) => run_seen(alloc, fitted, steps, &RowsOf { by }, rowed),
         Err(_) => Err(NoMemory),
     }
 }
@@ -121,8 +157,9 @@ pub(crate) fn write_last_row<W: Write>(
 pub fn set_trace(alloc: Global, fitted: &Fitted<'_>, steps: u64) -> Result<SetTold, NoMemory>
     ensures { IfOk result (λ t. HasEnded fitted.now steps t.end × (t.text.items ≡ trace_of fitted.now t.end)) }
 {
-    let mut text = Vec::new(alloc);
-    let ending = add_rows(alloc, fitted, steps, &TraceRows, &mut text)?;
+    let mut rowed = no_rows(alloc, fitted)?;
+    let ending = add_rows(alloc, fitted, steps, &TraceRows, &mut rowed)?;
+    let mut text = rowed.text;
     match write_last_row(fitted, &ending, &mut text) {
         Ok(()) => Ok(SetTold {
             text,
@@ -132,21 +169,30 @@ pub fn set_trace(alloc: Global, fitted: &Fitted<'_>, steps: u64) -> Result<SetTo
     }
 }
 
-/// The points that a run for at most so many steps measures, in machine coordinates too where that is wanted.
+/// The points that a run for at most so many steps measures, in machine coordinates too where that is wanted, with the CALLs that their statements come from: of a code from this
+/// text, or of an image, which has none.
 ///
 /// Errors: want of memory.
 pub fn set_points(
     alloc: Global,
     fitted: &Fitted<'_>,
     steps: u64,
+    text: Option<&[u8]>,
     is_machine: bool,
 ) -> Result<SetTold, NoMemory>
-    ensures { IfOk result (λ t. HasEnded fitted.now steps t.end × (t.text.items ≡ points_of is_machine fitted.now t.end)) }
+    ensures end { IfOk result (λ t. HasEnded fitted.now steps t.end) }
+    ensures text { IfOk result (λ t. ArePoints (option_map (λ t. t.now) text.entry) is_machine fitted.now t.end t.text.items) }
 {
-    let mut text = Vec::new(alloc);
-    let ending = add_rows(alloc, fitted, steps, &PointRows { is_machine }, &mut text)?;
+    let source = source_in(alloc, text)?;
+    let calls = CallFields { source: &source };
+    let by = PointRows {
+        is_machine,
+        calls: &calls,
+    };
+    let mut rowed = no_rows(alloc, fitted)?;
+    let ending = add_rows(alloc, fitted, steps, &by, &mut rowed)?;
     Ok(SetTold {
-        text,
+        text: rowed.text,
         end: ending.end,
     })
 }

@@ -1,5 +1,7 @@
 pub mod Apart
+pub mod Blocked
 pub mod Counted
+pub mod Lined
 pub mod Listed
 pub mod Mute
 pub mod Saying

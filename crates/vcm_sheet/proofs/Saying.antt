@@ -91,6 +91,11 @@ pub adds_last : {A E : Type 0} (r : Result A E) (ss ts : List Saying) (o n m : L
 adds_last (Ok a) ss ts o n m h k = adds_both ss ts o n m h k
 adds_last (Err e) ss ts o n m h k = k
 
+-- what one call appended, and then the last one, which says nothing
+pub adds_end : {A E : Type 0} (r : Result A E) (ss : List Saying) (o n x m : List ℕ) → IsMute x → Adds ss o n → OnOk r (m ≡ n ++ x) → OnOk r (Adds ss o m)
+adds_end (Ok a) ss o n x m h k e = subst (λ l. Adds l o m) (append-nil ss) (adds_both ss [] o n m k (adds_mute n m x h e))
+adds_end (Err f) ss o n x m h k e = e
+
 -- what the last call appended, which says nothing
 pub last_mute : {A E : Type 0} (r : Result A E) (o n x : List ℕ) → IsMute x → OnOk r (n ≡ o ++ x) → OnOk r (Adds [] o n)
 last_mute (Ok a) o n x h e = adds_mute o n x h e

@@ -14,9 +14,9 @@ pub some_left : (n : ℕ) → n ≢ 0 → nat_eq n 0 ≡ false
 some_left n h = grind (arith, nat_tests)
 
 -- the row of how many more there are
-pub more_said : (count : ℕ) (words o n : List ℕ) → count - 40 ≢ 0 → Adds (say (codes "and " ∷ decimal (count - 40) ∷ words ∷ []) ∷ []) o n
-    → Adds (more_rows count words) o n
-more_said count words o n h k = rw (some_left (count - 40) h) k
+pub more_said : (most count : ℕ) (words o n : List ℕ) → count - most ≢ 0 → Adds (say (codes "and " ∷ decimal (count - most) ∷ words ∷ []) ∷ []) o n
+    → Adds (more_rows most count words) o n
+more_said most count words o n h k = rw (some_left (count - most) h) k
 
 -- a table that has rows
 pub table_said : {A E : Type 0} (r : Result A E) (count : ℕ) (is_empty : Bool) (said : List Saying) (o n : List ℕ) → is_empty ≡ (count == 0)
@@ -39,12 +39,12 @@ all_names names count i some h most least =
     let k : i ≡ count = omega arith in
     subst (λ m. some ≡ named_before names m) k h
 
-pub blocks_said : {A E X : Type 0} (r : Result A E) (f : X → List ℕ) (xs : List X) (blocks : List ℕ) (o n : List ℕ)
-    → blocks ≡ named_before (map f xs) (length xs) → IfOk r (λ a. Adds (table_of (map f xs) blocks) o n)
-    → IfOk r (λ a. Adds (blocks_table (map f xs)) o n)
-blocks_said r f xs blocks o n h k =
+pub blocks_said : {A E X : Type 0} (r : Result A E) (most : ℕ) (f : X → List ℕ) (xs : List X) (blocks : List ℕ) (o n : List ℕ)
+    → blocks ≡ named_before (map f xs) (length xs) → IfOk r (λ a. Adds (table_of most (map f xs) blocks) o n)
+    → IfOk r (λ a. Adds (blocks_table most (map f xs)) o n)
+blocks_said r most f xs blocks o n h k =
     let e : blocks ≡ named_before (map f xs) (length (map f xs)) = h ∙ ap (named_before (map f xs)) (sym (length-map xs f)) in
-    subst (λ b. IfOk r (λ a. Adds (table_of (map f xs) b) o n)) e k
+    subst (λ b. IfOk r (λ a. Adds (table_of most (map f xs) b) o n)) e k
 
 begun_of : {X : Type 0} (f : X → List ℕ) (p : List ℕ → Bool) (xs : List X) → prefix_len p (map f xs) ≡ prefix_len (λ x. p (f x)) xs
 begun_of f p [] = refl
@@ -71,12 +71,12 @@ range_said r first last o n h k =
     rw some k
 
 -- the heads of columns, one more at a time
-pub one_more_head : (i : ℕ) (o n m : List ℕ) → Adds (heads_before i) o n → Adds (head_at i) n m → Adds (heads_before (i + 1)) o m
-one_more_head i o n m h k =
+pub one_more_head : (rows i : ℕ) (o n m : List ℕ) → Adds (heads_before rows i) o n → Adds (head_at rows i) n m → Adds (heads_before rows (i + 1)) o m
+one_more_head rows i o n m h k =
     let e : i + 1 ≡ suc i = omega arith in
-    subst (λ j. Adds (heads_before j) o m) (sym e) (adds_both (heads_before i) (head_at i) o n m h k)
+    subst (λ j. Adds (heads_before rows j) o m) (sym e) (adds_both (heads_before rows i) (head_at rows i) o n m h k)
 
-pub all_heads : (count i : ℕ) (o n : List ℕ) → Adds (heads_before i) o n → i ≤ count → count ≤ i → Adds (heads_before count) o n
-all_heads count i o n h most least =
+pub all_heads : (rows count i : ℕ) (o n : List ℕ) → Adds (heads_before rows i) o n → i ≤ count → count ≤ i → Adds (heads_before rows count) o n
+all_heads rows count i o n h most least =
     let k : i ≡ count = omega arith in
-    subst (λ m. Adds (heads_before m) o n) k h
+    subst (λ m. Adds (heads_before rows m) o n) k h

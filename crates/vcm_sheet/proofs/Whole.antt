@@ -18,7 +18,9 @@ use Rattle.vcm_picture.specs.declared.view.View.TheVariants.{Top, Front, Side}
 use Rattle.vcm_picture.specs.Marks.{contact_of}
 use Rattle.vcm_picture.specs.Picture.{window_round}
 use Rattle.vcm_sheet.specs.declared.points.Pointed.{Pointed}
-use Rattle.vcm_sheet.specs.Content.{Filing, marks_shown, points_shown, has_end, window_of, stop_words, title_said, heading, used_of, tables, views, bar_said, whole, content}
+use Rattle.vcm_sheet.specs.Content.{Filing, marks_shown, points_shown, has_end, window_of, stop_words, title_said, heading, heading_lines, used_of, tables, views, bar_said, block_if, whole, content}
+use Rattle.vcm_sheet.specs.Paper.{room_of, window_on}
+use Rattle.vcm_sheet.specs.declared.paper.Room.{Room}
 use Rattle.vcm_sheet.specs.Ticks.{ticks_in}
 use Rattle.vcm_sheet.specs.Views.{Drawn, drawn_at}
 use Rattle.vcm_sheet.specs.Sayings.{Saying, Title, IsMute, IsSaid, Says, Adds, say}
@@ -39,13 +41,14 @@ adds_front s at o n e =
     (mute_both (group_text s.view at) (path class.Frame (frame_of s)) (mute_group s.view at) (mute_path class.Frame (frame_of s))) e
 
 -- the bar, and what it says
-pub adds_bar : (at : Spot) (u grain wide : ℤ) (o n : List ℕ) → n ≡ o ++ bar_text at u grain wide
-    → Adds (say (thousandths (bar_of (int_div_euclid wide (pos 4)) *ℤ grain) ∷ codes " mm; third-angle projection" ∷ []) ∷ []) o n
-adds_bar at u grain wide o n e =
+pub last_bar : {A E : Type 0} (r : Result A E) (at : Spot) (u grain wide : ℤ) (o n : List ℕ) → OnOk r (n ≡ o ++ bar_text at u grain wide)
+    → OnOk r (Adds (say (thousandths (bar_of (int_div_euclid wide (pos 4)) *ℤ grain) ∷ codes " mm; third-angle projection" ∷ []) ∷ []) o n)
+last_bar (Ok a) at u grain wide o n e =
     let long = bar_of (int_div_euclid wide (pos 4)) in
     let words = thousandths (long *ℤ grain) ∷ codes " mm; third-angle projection" ∷ [] in
     adds_after (say words) o n (path class.Cross (bar_line at (pos 5 *ℤ u) long)) (text (bar_label at u long) (joined words))
     (mute_path class.Cross (bar_line at (pos 5 *ℤ u) long)) (record { at = (bar_label at u long).at; is_text = text_said (bar_label at u long) (joined words) }) e
+last_bar (Err x) at u grain wide o n e = e
 
 regroup : (o t name c f e : List ℕ) → (((o ++ t) ++ name) ++ (c ++ (f ++ []))) ++ e ≡ o ++ (t ++ ((name ++ (c ++ f)) ++ e))
 regroup o t name c f e = simp (append_assoc, append-nil)
@@ -73,23 +76,34 @@ appended : (ss : List Saying) (a h o n : List ℕ) → a ≡ [] → Adds ss a h 
 appended ss a h o n e k f = record { more = k.more; says = k.says; new_is = f ∙ ap (λ l. o ++ l) (k.new_is ∙ ap (λ l. l ++ k.more) e) }
 
 module _ (f : Filing) (stopped : List ℕ) (is_drawn : Bool) (w : Window) (top front side : Drawn) (contact : Option Contact) (points : List Pointed) where
-  -- the parts: the head, the ground, the heading, the views, the tables and the foot
-  pub whole_said : (o p q s t u n a h b k : List ℕ) → o ≡ [] → a ≡ [] → b ≡ [] → Adds (title_said f stopped ∷ []) o p → Adds [] p q
-      → Adds (heading f stopped is_drawn contact) a h → s ≡ q ++ h → Adds (views f stopped w top front side (length points)) s t
-      → Adds (tables f (used_of w top front side) (ticks_in w) points) b k → u ≡ t ++ k → Adds (bar_said w) u n
-      → Says (whole f stopped is_drawn w top front side contact points) n
+  -- a sheet with so many lines in its heading, and with so much room
+  abbrev parts : (lines : ℕ) → Room → List Saying
+  parts lines room =
+      (title_said f stopped ∷ []) ++ (heading f stopped is_drawn contact ++ (views f stopped w top front side (length points)
+      ++ (tables f (used_of w top front side) (ticks_in w) room points ++ (bar_said w ++ block_if f f.paper lines (length points) w))))
+
+  -- the parts: the head, the ground, the beginning of what stands in a frame, the heading, the views, the tables and the foot
+  pub whole_said : (lines : ℕ) (room : Room) (o p q r s t u n a h b k : List ℕ) → lines ≡ heading_lines f stopped is_drawn contact
+      → room ≡ room_of f.paper lines (length points) w → o ≡ [] → a ≡ [] → b ≡ [] → Adds (title_said f stopped ∷ []) o p → Adds [] p q → Adds [] q r
+      → Adds (heading f stopped is_drawn contact) a h → s ≡ r ++ h → Adds (views f stopped w top front side (length points)) s t
+      → Adds (tables f (used_of w top front side) (ticks_in w) room points) b k → u ≡ t ++ k
+      → Adds (bar_said w ++ block_if f f.paper lines (length points) w) u n → Says (whole f stopped is_drawn w top front side contact points) n
   unfolding whole
-  whole_said o p q s t u n a h b k eo ea eb head ground lines es drawn rows eu foot =
+  whole_said lines room o p q r s t u n a h b k lines_are room_is eo ea eb head ground begun above es drawn rows eu foot =
       let title = title_said f stopped ∷ [] in
-      let above = heading f stopped is_drawn contact in
+      let upper = heading f stopped is_drawn contact in
       let middle = views f stopped w top front side (length points) in
-      let right = tables f (used_of w top front side) (ticks_in w) points in
-      says_all (title ++ (above ++ (middle ++ (right ++ bar_said w)))) o n eo
-      (adds_both title (above ++ (middle ++ (right ++ bar_said w))) o p n head
-      (adds_both [] (above ++ (middle ++ (right ++ bar_said w))) p q n ground
-      (adds_both above (middle ++ (right ++ bar_said w)) q s n (appended above a h q s ea lines es)
-      (adds_both middle (right ++ bar_said w) s t n drawn
-      (adds_both right (bar_said w) t u n (appended right b k t u eb rows eu) foot)))))
+      let right = tables f (used_of w top front side) (ticks_in w) room points in
+      let lower = bar_said w ++ block_if f f.paper lines (length points) w in
+      let all : Says (parts lines room) n = says_all (title ++ (upper ++ (middle ++ (right ++ lower)))) o n eo
+      (adds_both title (upper ++ (middle ++ (right ++ lower))) o p n head
+      (adds_both [] (upper ++ (middle ++ (right ++ lower))) p q n ground
+      (adds_both [] (upper ++ (middle ++ (right ++ lower))) q r n begun
+      (adds_both upper (middle ++ (right ++ lower)) r s n (appended upper a h r s ea above es)
+      (adds_both middle (right ++ lower) s t n drawn
+      (adds_both right lower t u n (appended right b k t u eb rows eu) foot)))))) in
+      let roomy : Says (parts lines (room_of f.paper lines (length points) w)) n = subst (λ x. Says (parts lines x) n) room_is all in
+      subst (λ x. Says (parts x (room_of f.paper x (length points) w)) n) lines_are roomy
 
 module _ (f : Filing) where
   -- with what the views of a window show of marks and points, where the end is drawn or isn't
@@ -98,9 +112,10 @@ module _ (f : Filing) where
       whole f stopped d w (drawn_at d (scope_of w Top) f.part f.held marks points) (drawn_at d (scope_of w Front) f.part f.held marks points)
       (drawn_at d (scope_of w Side) f.part f.held marks points) (contact_of marks) points
 
-  module _ (marks : List PlacedMark) (points : List Pointed) (w : Window) (stopped : List ℕ) (d : Bool) (top front side : Drawn) (marks_are : marks ≡ marks_shown f)
-      (points_are : points ≡ points_shown f) (window_is : w ≡ window_round f.part f.held marks f.is_close) (stopped_is : stopped ≡ stop_words f)
-      (end_is : d ≡ has_end f)
+  module _ (marks : List PlacedMark) (points : List Pointed) (round w : Window) (lines : ℕ) (stopped : List ℕ) (d : Bool) (top front side : Drawn)
+      (marks_are : marks ≡ marks_shown f) (points_are : points ≡ points_shown f) (round_is : round ≡ window_round f.part f.held marks f.is_close)
+      (lines_are : (words : List ℕ) → lines ≡ heading_lines f words d (contact_of marks)) (window_is : w ≡ window_on f.paper lines (length points) round)
+      (stopped_is : stopped ≡ stop_words f) (end_is : d ≡ has_end f)
       (top_is : top ≡ drawn_at d (scope_of w Top) f.part f.held marks points) (front_is : front ≡ drawn_at d (scope_of w Front) f.part f.held marks points)
       (side_is : side ≡ drawn_at d (scope_of w Side) f.part f.held marks points) where
     same_views : whole f stopped d w top front side (contact_of marks) points ≡ with_views d marks points w stopped
@@ -110,11 +125,23 @@ module _ (f : Filing) where
         ∙ ap (λ x. whole f stopped d w (drawn_at d (scope_of w Top) f.part f.held marks points) (drawn_at d (scope_of w Front) f.part f.held marks points) x
         (contact_of marks) points) side_is
 
+    -- the window that these marks and points have
+    abbrev window_with : Bool → List PlacedMark → List Pointed → Window
+    window_with d marks points =
+        window_on f.paper (heading_lines f (stop_words f) d (contact_of marks)) (length points) (window_round f.part f.held marks f.is_close)
+
+    same_window : w ≡ window_of f
+    same_window =
+        window_is ∙ ap (λ x. window_on f.paper lines (length points) x) round_is
+        ∙ ap (λ x. window_on f.paper x (length points) (window_round f.part f.held marks f.is_close)) (lines_are (stop_words f))
+        ∙ ap (λ x. window_with d x points) marks_are ∙ ap (λ x. window_with d (marks_shown f) x) points_are
+        ∙ ap (λ x. window_with x (marks_shown f) (points_shown f)) end_is
+
     same_content : whole f stopped d w top front side (contact_of marks) points ≡ content f
     unfolding content
     same_content =
-        same_views ∙ ap (with_views d marks points w) stopped_is ∙ ap (λ x. with_views d marks points x (stop_words f)) window_is
-        ∙ ap (λ x. with_views d x points (window_round f.part f.held x f.is_close) (stop_words f)) marks_are
+        same_views ∙ ap (with_views d marks points w) stopped_is ∙ ap (λ x. with_views d marks points x (stop_words f)) same_window
+        ∙ ap (λ x. with_views d x points (window_of f) (stop_words f)) marks_are
         ∙ ap (λ x. with_views d (marks_shown f) x (window_of f) (stop_words f)) points_are
         ∙ ap (λ x. with_views x (marks_shown f) (points_shown f) (window_of f) (stop_words f)) end_is
 

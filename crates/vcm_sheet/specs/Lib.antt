@@ -11,6 +11,8 @@ pub mod Legend
 pub mod Views
 pub mod Heading
 pub mod Tables
+pub mod Paper
+pub mod Block
 pub mod Content
 pub mod Filed
 pub mod Laws

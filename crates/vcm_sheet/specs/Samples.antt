@@ -4,8 +4,12 @@ use Rattle.std.specs.Fmt.{digits}
 use Rattle.vcm_num.specs.Point.{point}
 use Rattle.vcm_marks.specs.declared.mark.Mark.TheVariants.{Touches}
 use Rattle.vcm_marks.specs.declared.mark.PlacedMark.{PlacedMark}
+use Rattle.vcm_svg.specs.Pieces.{joined}
 use Rattle.vcm_svg.specs.Rect.{spot}
+use Rattle.vcm_picture.specs.Sights.{Window}
+use Rattle.vcm_sheet.specs.declared.paper.Paper.TheVariants.{A4, A3}
 use Rattle.vcm_sheet.specs.Lines.{draws_end}
+use Rattle.vcm_sheet.specs.Paper.{room_of, scale_above, scale_on, scale_words}
 use Rattle.vcm_sheet.specs.Points.{points_on}
 use Rattle.vcm_sheet.specs.Readings.{deviation_words}
 use Rattle.vcm_sheet.specs.Sayings.{say, Says, text_with}
@@ -39,7 +43,7 @@ pub no_deviation : deviation_words (Some (record { step = 4; at = point (pos 0) 
 no_deviation = refl
 
 -- 41 points have two columns
-pub two_columns : heads_before 41 ≡ points_head ++ points_head
+pub two_columns : heads_before 40 41 ≡ points_head ++ points_head
 two_columns = refl
 
 -- of a way that ends on line 11 the end is drawn with the lines 10 to 12, and not with 1 to 7
@@ -58,14 +62,14 @@ one_missing = refl
 
 -- the second of three blocks has a name, which ends in a line feed
 pub named_block :
-    blocks_table ([] ∷ codes "plate <A>\n" ∷ [] ∷ [])
+    blocks_table 40 ([] ∷ codes "plate <A>\n" ∷ [] ∷ [])
     ≡ say (codes "block" ∷ []) ∷ say (codes "name" ∷ []) ∷ say (codes "2" ∷ []) ∷ say (codes "plate &lt;A>?" ∷ []) ∷ []
 unfolding digits
 named_block = refl
 
 -- blocks one after another with one name have one row
 pub named_blocks :
-    blocks_table ([] ∷ codes "bore" ∷ codes "bore" ∷ codes "rib" ∷ codes "bore" ∷ [])
+    blocks_table 40 ([] ∷ codes "bore" ∷ codes "bore" ∷ codes "rib" ∷ codes "bore" ∷ [])
     ≡ say (codes "block" ∷ []) ∷ say (codes "name" ∷ []) ∷ say (codes "2-3" ∷ []) ∷ say (codes "bore" ∷ []) ∷ say (codes "4" ∷ []) ∷ say (codes "rib" ∷ [])
     ∷ say (codes "5" ∷ []) ∷ say (codes "bore" ∷ []) ∷ []
 unfolding digits
@@ -105,3 +109,42 @@ one_text = record {
   says_rest = record { opens_none = λ rest. refl };
   bytes_are = refl;
 }
+
+-- ---- papers
+
+-- 100 by 80 by 50 mm
+abbrev bracket : Window
+bracket = record { low = point (pos 0) (pos 0) (pos 0); full = point (pos 100000) (pos 80000) (pos 50000); grain = pos 1; unit = pos 180 }
+
+-- below a heading of four lines A4 has room for 26 rows, so of 100 points 25 are listed, and one row says how many more there are
+pub points_on_a4 : room_of (Some A4) 4 100 bracket ≡ record { rows = 26; points = 25; names = 0 }
+unfolding scale_above
+points_on_a4 = refl
+
+-- A3 has two columns of 50
+pub points_on_a3 : room_of (Some A3) 4 100 bracket ≡ record { rows = 50; points = 100; names = 0 }
+unfolding scale_above
+points_on_a3 = refl
+
+-- beside three points the views are larger above the tables, and the names of six blocks have room
+pub names_on_a4 : room_of (Some A4) 4 3 bracket ≡ record { rows = 12; points = 3; names = 6 }
+unfolding scale_above
+names_on_a4 = refl
+
+-- so they are drawn at 1:2, on A3 at 1:1, and beside 20 points on A4 at 1:5
+pub scale_on_a4 : joined (scale_words (scale_on A4 4 3 bracket)) ≡ codes "1:2"
+unfolding digits scale_above
+scale_on_a4 = refl
+
+pub scale_on_a3 : joined (scale_words (scale_on A3 4 3 bracket)) ≡ codes "1:1"
+unfolding digits scale_above
+scale_on_a3 = refl
+
+pub scale_beside_20 : joined (scale_words (scale_on A4 4 20 bracket)) ≡ codes "1:5"
+unfolding digits scale_above
+scale_beside_20 = refl
+
+-- a part of 6 by 5 by 4 mm is drawn ten times as large
+pub scale_of_small : joined (scale_words (scale_on A3 4 3 (record (bracket) { full = point (pos 6000) (pos 5000) (pos 4000) }))) ≡ codes "10:1"
+unfolding digits scale_above
+scale_of_small = refl

@@ -6,6 +6,7 @@ use Rattle.std.specs.Fmt.{signed_decimal}
 use Rattle.vcm_report.specs.Printed.{name_at}
 use Rattle.vcm_svg.specs.Pieces.{point_text}
 use Rattle.vcm_sheet.specs.declared.legend.Used.{Used}
+use Rattle.vcm_sheet.specs.declared.paper.Room.{Room}
 use Rattle.vcm_sheet.specs.declared.points.Pointed.{Pointed}
 use Rattle.vcm_sheet.specs.declared.readings.Reading.{Reading}
 use Rattle.vcm_sheet.specs.Readings.{reading_of, place_words, deviation_words}
@@ -32,13 +33,9 @@ mark_signs u =
 abbrev pub legend : Used → Bool → List Saying
 legend u has_origin = way_signs u ++ (mark_signs u ++ sign_row has_origin (codes "X, Y or Z is 0"))
 
--- the first 40 rows of a table
-abbrev pub first_rows : {A : Type 0} → List A → List A
-first_rows rows = take 40 rows
-
--- how many more there are, if there are any
-abbrev pub more_rows : ℕ → List ℕ → List Saying
-more_rows count words = if nat_eq (count - 40) 0 then [] else say (codes "and " ∷ decimal (count - 40) ∷ words ∷ []) ∷ []
+-- how many more than so many there are, if there are any
+abbrev pub more_rows : (most count : ℕ) → List ℕ → List Saying
+more_rows most count words = if nat_eq (count - most) 0 then [] else say (codes "and " ∷ decimal (count - most) ∷ words ∷ []) ∷ []
 
 -- the row of a point of which this was measured: its number, its source line, its feature, its place on the machine and in the part, and its deviation
 abbrev pub measured_row : List (List ℕ) → Pointed → Option Reading → List Saying
@@ -60,18 +57,20 @@ points_head =
 abbrev pub head_if : Bool → List Saying
 head_if is_first = if is_first then points_head else []
 
--- of the point with this index the head of its column, if it is the first one there
-abbrev pub head_at : ℕ → List Saying
-head_at index = head_if (nat_eq (index % 40) 0)
+-- of the point with this index the head of its column of so many rows, if it is the first one there
+abbrev pub head_at : (rows index : ℕ) → List Saying
+head_at rows index = head_if (nat_eq (index % rows) 0)
 
 -- the heads of the columns of so many points
-abbrev pub heads_before : ℕ → List Saying
-heads_before zero = []
-heads_before (suc n) = heads_before n ++ head_at n
+abbrev pub heads_before : (rows points : ℕ) → List Saying
+heads_before rows zero = []
+heads_before rows (suc n) = heads_before rows n ++ head_at rows n
 
--- the table of points: 40 in a column, and as many columns as they need; the heads first
-abbrev pub points_table : List (List ℕ) → List Reading → List Pointed → List Saying
-points_table features readings points = heads_before (length points) ++ flat_map (point_row features readings) points
+-- the table of points: those that have room, in as many columns as they need, the heads first; and how many more there are
+abbrev pub points_table : List (List ℕ) → List Reading → Room → List Pointed → List Saying
+points_table features readings room points =
+    let shown = take room.points points in
+    heads_before room.rows (length shown) ++ (flat_map (point_row features readings) shown ++ more_rows room.points (length points) (codes " more points"))
 
 -- a block has the name of the block before it
 abbrev pub goes_on : List (List ℕ) → ℕ → Bool
@@ -102,12 +101,12 @@ block_row names block = say (numbers block (last_named names block)) ∷ say (wr
 abbrev pub blocks_head : List Saying
 blocks_head = say (codes "block" ∷ []) ∷ say (codes "name" ∷ []) ∷ []
 
--- the table of the names that begin with these blocks, if there are any
-abbrev pub table_of : List (List ℕ) → List ℕ → List Saying
-table_of names blocks =
+-- the table of the names that begin with these blocks, so many at most, if there are any
+abbrev pub table_of : (most : ℕ) → List (List ℕ) → List ℕ → List Saying
+table_of most names blocks =
     if nat_eq (length blocks) 0 then [] else
-    blocks_head ++ (flat_map (block_row names) (first_rows blocks) ++ more_rows (length blocks) (codes " more names"))
+    blocks_head ++ (flat_map (block_row names) (take most blocks) ++ more_rows most (length blocks) (codes " more names"))
 
--- the table of the names of blocks
-abbrev pub blocks_table : List (List ℕ) → List Saying
-blocks_table names = table_of names (named_before names (length names))
+-- the table of the names of blocks, so many at most
+abbrev pub blocks_table : (most : ℕ) → List (List ℕ) → List Saying
+blocks_table most names = table_of most names (named_before names (length names))

@@ -1,8 +1,8 @@
 //! The heading of a sheet.
 
-ghost use Rattle.std.specs.Prelude.{◌≡◌, pos, ◌*ℤ◌, [], ◌∷◌, flat_map, map, IfOk};
+ghost use Rattle.std.specs.Prelude.{◌≡◌, ◌≤◌, ℕ, pos, ◌*ℤ◌, List, [], ◌∷◌, flat_map, map, min, if◌then◌else◌, IfOk};
 ghost use Rattle.vcm_svg.specs.Pieces.{texts};
-ghost use Rattle.vcm_sheet.specs.Content.{filing, heading};
+ghost use Rattle.vcm_sheet.specs.Content.{filing, heading, heading_lines};
 ghost use Rattle.vcm_sheet.specs.Heading.{files_line, stop_line, position_line, lines_line, contact_words, contact_line, left_out_line, note_line, untried_lines};
 ghost use Rattle.vcm_sheet.specs.Sayings.{Adds, Words};
 
@@ -38,8 +38,8 @@ fn put_line(out: &mut Vec<u8>, unit: Unit, down: i64, words: &[Fragment]) -> Res
     Ok(down.saturating_add(PITCH))
 }
 
-// The diameter of a tip of this half width.
-fn diameter(tip: u32) -> i64
+/// The diameter of a tip of this half width.
+pub(crate) fn diameter(tip: u32) -> i64
     ensures { result ≡ pos 2 *ℤ pos tip }
 {
     2 * i64::from(tip)
@@ -275,4 +275,35 @@ pub(crate) fn put_heading(
     let down = put_contact(alloc, out, unit, down, sheet.block_names, contact)?;
     let down = put_left_out(out, unit, down, sheet.left_out)?;
     put_untried(alloc, out, unit, down, sheet.untried)
+}
+
+// One, where something is so.
+fn one_if(is_so: bool) -> u16
+    ensures value { result ≡ (if is_so then 1 else 0) }
+    ensures most { result ≤ 1 }
+{
+    u16::from(is_so)
+}
+
+// How many of so many lines of what wasn't tried are shown.
+fn notes_of(lines: usize) -> u16
+    ensures value { result ≡ min 40 lines }
+    ensures most { result ≤ 40 }
+{
+    match u16::try_from(lines) {
+        Ok(count) => count.min(40),
+        Err(_) => 40,
+    }
+}
+
+/// How many lines the heading of a run has whose end is drawn or isn't.
+pub(crate) fn heading_lines(sheet: &Sheet<'_>, is_drawn: bool, contact: Option<Contact>) -> u16
+    ensures value { (stopped : List ℕ) → result ≡ heading_lines (filing sheet.now) stopped is_drawn contact }
+    ensures most { result ≤ 100 }
+{
+    2 + one_if(is_drawn)
+        + one_if(sheet.lines.first != 0)
+        + one_if(contact.is_some())
+        + one_if(sheet.left_out != 0)
+        + notes_of(sheet.untried.len())
 }

@@ -2,6 +2,7 @@
 //! that it can be filed.
 #![tactic(auto)]
 
+mod block;
 mod frames;
 mod heading;
 mod laws;
@@ -9,6 +10,7 @@ mod legend;
 mod lines;
 mod names;
 mod numbers;
+mod paper;
 mod places;
 mod points;
 mod readings;
@@ -23,6 +25,7 @@ pub use laws::{numbers_are_apart, numbers_stand_there, points_are_numbered};
 pub use legend::{Used, used_in};
 pub use lines::{ALL_LINES, Lines, draws_end, has_line, marks_on};
 pub use numbers::{Numbered, numbers_of};
+pub use paper::Paper;
 pub use points::{Pointed, all_points, points_on};
 pub use readings::{Reading, reading_of};
 pub use sheet::write_sheet;

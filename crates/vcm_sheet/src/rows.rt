@@ -1,16 +1,17 @@
 //! The tables of a sheet: the legend, the touched points and the names of blocks.
 
-ghost use Rattle.std.specs.Prelude.{◌≡◌, ◌≤◌, ◌%◌, nat_eq, [], ◌∷◌, ◌++◌, codes, map, flat_map, length, OnOk, IfOk};
+ghost use Rattle.std.specs.Prelude.{◌≡◌, ◌≤◌, ◌%◌, nat_eq, [], ◌∷◌, ◌++◌, ◌<◌, codes, map, flat_map, length, take, OnOk, IfOk};
 ghost use Rattle.std.specs.List.{take_while};
 ghost use Rattle.std.specs.Str.{bytes_eq};
 ghost use Rattle.vcm_svg.specs.Pieces.{piece_text, point_text};
 ghost use Rattle.vcm_sheet.specs.Readings.{place_words, deviation_words};
 ghost use Rattle.vcm_sheet.specs.Sayings.{Adds, say};
-ghost use Rattle.vcm_sheet.specs.Tables.{sign_row, way_signs, mark_signs, legend, first_rows, more_rows, point_row, points_head, head_if, head_at, heads_before, points_table, goes_on, number_if, named_before, last_named, numbers, block_row, blocks_head, table_of, blocks_table};
+ghost use Rattle.vcm_sheet.specs.Tables.{sign_row, way_signs, mark_signs, legend, more_rows, point_row, points_head, head_if, head_at, heads_before, points_table, goes_on, number_if, named_before, last_named, numbers, block_row, blocks_head, table_of, blocks_table};
 ghost use Rattle.vcm_sheet.specs.Written.{name_of};
 
 use crate::legend::Used;
 use crate::names::{name_of, written};
+use crate::paper::Room;
 use crate::places::{corner, moved, units};
 use crate::points::Pointed;
 use crate::readings::{Reading, deviation_words, place_words, reading_of};
@@ -18,18 +19,10 @@ use std::alloc::Global;
 use vcm_items::Name;
 use vcm_num::{NoMemory, Point, is};
 use vcm_picture::name_at;
-use vcm_svg::{
-    Class, Fragment, Lettering, Placement, Sign, Spot, Unit, put, put_row, put_text, quotient,
-};
+use vcm_svg::{Class, Fragment, Lettering, Placement, Sign, Spot, Unit, put, put_row, put_text};
 
 /// How many units a row is high.
 pub(crate) const PITCH: i64 = 14;
-
-/// The most names of blocks of a table, and the most points of a column.
-const MOST_ROWS: usize = 40;
-
-/// The same.
-const COLUMN_ROWS: i64 = 40;
 
 /// How many units a column of points is wide.
 pub(crate) const COLUMN_WIDTH: i64 = 620;
@@ -207,10 +200,10 @@ pub(crate) fn put_signs(
     put_origin(out, at, unit, has_origin)
 }
 
-// Where the row of the point with this index stands: 40 rows in a column, the next column beside it.
-fn row_place(at: Spot, unit: Unit, index: i64) -> Spot {
-    let column = quotient(index, COLUMN_ROWS);
-    let row = index.rem_euclid(COLUMN_ROWS);
+// Where the row of the point with this index stands: so many rows in a column, the next column beside it.
+fn row_place(at: Spot, unit: Unit, rows: i64, index: i64) -> Spot {
+    let column = index.div_euclid(rows.max(1));
+    let row = index.rem_euclid(rows.max(1));
     moved(
         at,
         units(column.saturating_mul(COLUMN_WIDTH), unit),
@@ -253,17 +246,18 @@ fn put_point(
     put_measured(out, at, unit, point.touched.at, reading)
 }
 
-// Appends a row that tells how many more there are, if there are any.
+// Appends a row that tells how many more than so many there are, if there are any.
 fn put_more(
     out: &mut Vec<u8>,
     at: Spot,
     unit: Unit,
+    most: usize,
     all: usize,
     words: &[u8],
 ) -> Result<Spot, NoMemory>
-    ensures { IfOk result (λ next. Adds (more_rows all words.now) out.old.items out.new.items) }
+    ensures { IfOk result (λ next. Adds (more_rows most all words.now) out.old.items out.new.items) }
 {
-    let more = all.saturating_sub(MOST_ROWS);
+    let more = all.saturating_sub(most);
     if more == 0 {
         return Ok(at);
     }
@@ -279,11 +273,11 @@ fn put_more(
     Ok(below(at, unit))
 }
 
-// The first rows of a table.
-fn first_rows<T>(rows: &[T]) -> &[T]
-    ensures { result.now ≡ first_rows rows.now }
+// The first rows of a table, so many at most.
+fn first_rows<T>(most: usize, rows: &[T]) -> &[T]
+    ensures { result.now ≡ take most rows.now }
 {
-    &rows[..rows.len().min(MOST_ROWS)]
+    &rows[..rows.len().min(most)]
 }
 
 // Appends what heads the places of points and their deviations.
@@ -313,11 +307,12 @@ fn signed(count: usize) -> i64 {
     }
 }
 
-// Whether the point with this index is the first one of its column.
-fn is_first(index: usize) -> bool
-    ensures { result ≡ nat_eq (index % 40) 0 }
+// Whether the point with this index is the first one of its column of so many rows.
+fn is_first(rows: usize, index: usize) -> bool
+    requires { 0 < rows }
+    ensures { result ≡ nat_eq (index % rows) 0 }
 {
-    index % MOST_ROWS == 0
+    index % rows == 0
 }
 
 // Appends the head of a column of points, if a point is the first one there.
@@ -331,28 +326,43 @@ fn put_head_if(out: &mut Vec<u8>, at: Spot, unit: Unit, is_first: bool) -> Resul
 }
 
 // Appends the head of the column of the point with this index, if it is the first one there.
-fn put_head_at(out: &mut Vec<u8>, at: Spot, unit: Unit, index: usize) -> Result<(), NoMemory>
-    ensures { OnOk result (Adds (head_at index) out.old.items out.new.items) }
+fn put_head_at(
+    out: &mut Vec<u8>,
+    at: Spot,
+    unit: Unit,
+    rows: usize,
+    index: usize,
+) -> Result<(), NoMemory>
+    requires { 0 < rows }
+    ensures { OnOk result (Adds (head_at rows index) out.old.items out.new.items) }
 {
-    let place = row_place(at, unit, signed(index));
-    put_head_if(out, place, unit, is_first(index))
+    let place = row_place(at, unit, signed(rows), signed(index));
+    put_head_if(out, place, unit, is_first(rows, index))
 }
 
 // Appends the heads of the columns of so many points.
-fn put_heads(out: &mut Vec<u8>, at: Spot, unit: Unit, count: usize) -> Result<(), NoMemory>
-    ensures { OnOk result (Adds (heads_before count) out.old.items out.new.items) }
+fn put_heads(
+    out: &mut Vec<u8>,
+    at: Spot,
+    unit: Unit,
+    rows: usize,
+    count: usize,
+) -> Result<(), NoMemory>
+    requires { 0 < rows }
+    ensures { OnOk result (Adds (heads_before rows count) out.old.items out.new.items) }
 {
     for index in 0..count {
-        put_head_at(out, at, unit, index)?;
+        put_head_at(out, at, unit, rows, index)?;
     }
     Ok(())
 }
 
-// Appends the rows of points.
+// Appends the rows of points, so many in a column.
 fn put_point_rows(
     out: &mut Vec<u8>,
     at: Spot,
     unit: Unit,
+    rows: usize,
     features: &[Name],
     readings: &[Reading],
     points: &[Pointed],
@@ -361,24 +371,27 @@ fn put_point_rows(
 {
     let mut index: i64 = 0;
     for point in points {
-        let place = row_place(at, unit, index);
+        let place = row_place(at, unit, signed(rows), index);
         put_point(out, place, unit, features, readings, point)?;
         index = index.saturating_add(1);
     }
     Ok(())
 }
 
-/// How many columns so many points need.
-pub(crate) fn columns_of(points: usize) -> i64 {
-    quotient(signed(points).saturating_add(COLUMN_ROWS - 1), COLUMN_ROWS)
+/// How many columns of so many rows so many points need.
+pub(crate) fn columns_of(rows: usize, points: usize) -> i64 {
+    let rows = signed(rows).max(1);
+    signed(points)
+        .saturating_add(rows.saturating_sub(1))
+        .div_euclid(rows)
 }
 
 // The place below the table of so many points, which begins there.
-fn below_points(at: Spot, unit: Unit, points: usize) -> Spot {
+fn below_points(at: Spot, unit: Unit, rows: usize, points: usize) -> Spot {
     if points == 0 {
         return at;
     }
-    let rows = points.min(MOST_ROWS) as i64 + 1;
+    let rows = signed(points.min(rows)).saturating_add(1);
     moved(
         at,
         0,
@@ -386,22 +399,41 @@ fn below_points(at: Spot, unit: Unit, points: usize) -> Spot {
     )
 }
 
+// Appends how many more points there are than so many, behind these.
+fn put_more_points(
+    out: &mut Vec<u8>,
+    at: Spot,
+    unit: Unit,
+    room: Room,
+    points: usize,
+) -> Result<(), NoMemory>
+    ensures { OnOk result (Adds (more_rows room.points points (codes " more points")) out.old.items out.new.items) }
+{
+    let place = row_place(at, unit, signed(room.rows), signed(room.points));
+    put_more(out, place, unit, room.points, points, b" more points")?;
+    Ok(())
+}
+
 /// Appends the table of points, if there are any, and gives the place below it.
 pub(crate) fn put_points(
     out: &mut Vec<u8>,
     at: Spot,
     unit: Unit,
+    room: Room,
     features: &[Name],
     readings: &[Reading],
     points: &[Pointed],
 ) -> Result<Spot, NoMemory>
-    ensures { IfOk result (λ next. Adds (points_table features.now readings.now points.now) out.old.items out.new.items) }
+    requires { 0 < room.rows }
+    ensures { IfOk result (λ next. Adds (points_table features.now readings.now room points.now) out.old.items out.new.items) }
 {
     let head = moved(at, 0, units(8, unit));
-    put_heads(out, head, unit, points.len())?;
+    let shown = first_rows(room.points, points);
+    put_heads(out, head, unit, room.rows, shown.len())?;
     let first = below(head, unit);
-    put_point_rows(out, first, unit, features, readings, points)?;
-    Ok(below_points(at, unit, points.len()))
+    put_point_rows(out, first, unit, room.rows, features, readings, shown)?;
+    put_more_points(out, first, unit, room, points.len())?;
+    Ok(below_points(at, unit, room.rows, points.len()))
 }
 
 // Whether a block has the name of the block before it.
@@ -527,35 +559,37 @@ fn put_block_rows(
     Ok(at)
 }
 
-// Appends the table of the names that begin with these blocks, if there are any, and gives the place below it.
+// Appends the table of the names that begin with these blocks, so many at most, if there are any, and gives the place below it.
 fn put_table(
     alloc: Global,
     out: &mut Vec<u8>,
     at: Spot,
     unit: Unit,
+    most: usize,
     names: &[Vec<u8>],
     blocks: &[usize],
 ) -> Result<Spot, NoMemory>
-    ensures { IfOk result (λ next. Adds (table_of (map (λ n. n.items) names.now) blocks.now) out.old.items out.new.items) }
+    ensures { IfOk result (λ next. Adds (table_of most (map (λ n. n.items) names.now) blocks.now) out.old.items out.new.items) }
 {
     if blocks.is_empty() {
         return Ok(at);
     }
     let at = put_blocks_head(out, at, unit)?;
-    let at = put_block_rows(alloc, out, at, unit, names, first_rows(blocks))?;
-    put_more(out, at, unit, blocks.len(), b" more names")
+    let at = put_block_rows(alloc, out, at, unit, names, first_rows(most, blocks))?;
+    put_more(out, at, unit, most, blocks.len(), b" more names")
 }
 
-/// Appends the table of the names of blocks, if there are any, and gives the place below it.
+/// Appends the table of the names of blocks, so many at most, if there are any, and gives the place below it.
 pub(crate) fn put_blocks(
     alloc: Global,
     out: &mut Vec<u8>,
     at: Spot,
     unit: Unit,
+    most: usize,
     names: &[Vec<u8>],
 ) -> Result<Spot, NoMemory>
-    ensures { IfOk result (λ next. Adds (blocks_table (map (λ n. n.items) names.now)) out.old.items out.new.items) }
+    ensures { IfOk result (λ next. Adds (blocks_table most (map (λ n. n.items) names.now)) out.old.items out.new.items) }
 {
     let blocks = named_blocks(alloc, names)?;
-    put_table(alloc, out, at, unit, names, blocks.as_slice())
+    put_table(alloc, out, at, unit, most, names, blocks.as_slice())
 }

@@ -1,20 +1,25 @@
 //! The whole sheet.
 
-ghost use Rattle.std.specs.Prelude.{◌≡◌, ◌++◌, ◌∷◌, [], flat_map, IfOk, OnOk};
+ghost use Rattle.std.specs.Prelude.{◌≡◌, ◌≤◌, ◌<◌, ◌++◌, ◌∷◌, [], flat_map, IfOk, OnOk};
 ghost use Rattle.vcm_picture.specs.Marks.{contact_of};
 ghost use Rattle.vcm_picture.specs.View.{scope_of};
 ghost use Rattle.vcm_picture.specs.declared.view.View.TheVariants.{Top, Front, Side};
-ghost use Rattle.vcm_sheet.specs.Content.{filing, shown_in, title_said, used_of, tables, bar_said, whole, content};
+ghost use Rattle.vcm_sheet.specs.Content.{filing, shown_in, title_said, used_of, tables, bar_said, block_if, whole, content};
 ghost use Rattle.vcm_sheet.specs.Filed.{IsFiled};
-ghost use Rattle.vcm_sheet.specs.Sayings.{Adds, Says};
+ghost use Rattle.vcm_sheet.specs.Paper.{room_of};
+ghost use Rattle.vcm_sheet.specs.Sayings.{IsMute, Adds, Says};
 ghost use Rattle.vcm_sheet.specs.Views.{drawn_at, number_said, missing_words, missing_line, view_said};
 
+use crate::block::{begin_frame, put_block};
 use crate::frames::{AxisTicks, has_origin, put_axes, put_ticks, put_words, ticks_in};
-use crate::heading::put_heading;
+use crate::heading::{heading_lines, put_heading};
 use crate::legend::{NONE, Used, used_in};
 use crate::lines::{draws_end, marks_on};
 use crate::names::put_name;
 use crate::numbers::Numbered;
+use crate::paper::{
+    Paper, Room, are_below, high_of, room_of, scale_on, tables_wide, wide_of, window_on,
+};
 use crate::places::{corner, moved, units};
 use crate::points::{Pointed, all_points, points_on};
 use crate::rows::{COLUMN_WIDTH, columns_of, put_blocks, put_points, put_signs};
@@ -104,43 +109,122 @@ fn used_of(window: Window, drawings: &Drawings) -> Used
     used_in(side, used, drawings.side.shapes.as_slice())
 }
 
+// What stands where: a paper, if there is one, and whether the tables are below the views there; and how many points there are, for which there is so much room.
+#[derive(Clone, Copy)]
+struct Sizes {
+    paper: Option<Paper>,
+    is_below: bool,
+    room: Room,
+    points: usize,
+}
+
+// What has room on a sheet whose heading has so many lines, and where the tables are.
+fn sizes_of(paper: Option<Paper>, lines: u16, points: usize, window: Window) -> Sizes
+    requires { lines ≤ 100 }
+    ensures room { result.room ≡ room_of paper lines points window }
+    ensures some { 1 ≤ result.room.rows }
+{
+    let is_below = match paper {
+        Some(paper) => are_below(paper, lines, points, window),
+        None => false,
+    };
+    Sizes {
+        paper,
+        is_below,
+        room: room_of(paper, lines, points, window),
+        points,
+    }
+}
+
+// How far from the upper edge of the frame the tables stand on a paper where they are below the views: 13 rows and a gap above its foot.
+fn below_views(paper: Paper) -> i64 {
+    i64::from(high_of(paper)) - 128 - 192
+}
+
+// How far from the left edge the tables stand: right of the top view, or on a paper at the right edge of the frame.
+fn tables_left(window: Window, sizes: Sizes) -> i64 {
+    let unit = window.unit();
+    match sizes.paper {
+        Some(_) if sizes.is_below => units(20, unit),
+        Some(paper) => {
+            let wide = tables_wide(paper, sizes.room.rows, sizes.points);
+            let right = i64::from(wide_of(paper)) - 120;
+            units(right.saturating_sub(i64::from(wide)), unit)
+        }
+        None => units(130, unit).saturating_add(scope_of(window, View::Top).wide().get()),
+    }
+}
+
 // The place of the tables, in a sheet whose heading ends so many units below its upper edge.
-fn tables_place(window: Window, down: i64) -> Spot {
-    let scope = scope_of(window, View::Top);
-    let place = corner(
-        units(130, window.unit()).saturating_add(scope.wide().get()),
-        units(down.saturating_add(36), window.unit()),
-    );
+fn tables_place(window: Window, sizes: Sizes, down: i64) -> Spot {
+    let upper = match sizes.paper {
+        Some(paper) if sizes.is_below => below_views(paper),
+        _ => down.saturating_add(36),
+    };
+    let place = corner(tables_left(window, sizes), units(upper, window.unit()));
     place.spot()
 }
 
-// How many units the tables are wide, of which that of the points has so many.
-fn tables_width(points: usize) -> i64 {
-    columns_of(points).saturating_mul(COLUMN_WIDTH).max(350)
+// The place of the table of points: below the legend, which begins and ends there, or beside it.
+fn points_place(unit: Unit, sizes: Sizes, legend: Spot, below: Spot) -> Spot {
+    if sizes.is_below {
+        moved(legend, units(370, unit), units(-8, unit))
+    } else {
+        below
+    }
 }
 
-// Where the parts of a sheet stand, in one whose tables begin and end there, and of so many points.
-fn places_of(window: Window, tables: Spot, below: Spot, points: usize) -> Places {
+// How many units the tables are wide.
+fn tables_width(sizes: Sizes) -> i64 {
+    columns_of(sizes.room.rows, sizes.points)
+        .saturating_mul(COLUMN_WIDTH)
+        .max(350)
+}
+
+// The size of a sheet: that of its paper, or what its parts need, which end so far to the right and so far down.
+fn size_of(unit: Unit, sizes: Sizes, right: i64, foot: i64) -> (i64, i64) {
+    match sizes.paper {
+        Some(paper) => (
+            units(i64::from(wide_of(paper)), unit),
+            units(i64::from(high_of(paper)), unit),
+        ),
+        None => (
+            right.saturating_add(units(20, unit)),
+            foot.saturating_add(units(60, unit)),
+        ),
+    }
+}
+
+// How far down the lower views stand: below the top view, and without a paper below the tables too, which end so far down.
+fn lower_views(window: Window, sizes: Sizes, upper: i64, below: i64) -> i64 {
+    let top = upper.saturating_add(scope_of(window, View::Top).high().get());
+    let above = match sizes.paper {
+        Some(_) => top,
+        None => top.max(below),
+    };
+    above.saturating_add(units(48, window.unit()))
+}
+
+// Where the parts of a sheet stand, whose heading ends so many units below its upper edge, and whose tables begin and end there.
+fn places_of(window: Window, sizes: Sizes, down: i64, tables: Spot, below: Spot) -> Places {
     let unit = window.unit();
-    let top = scope_of(window, View::Top);
     let side = scope_of(window, View::Side);
     let left = units(60, unit);
-    let upper = tables.y.saturating_sub(units(8, unit));
-    let lower = upper
-        .saturating_add(top.high().get())
-        .max(below.y)
-        .saturating_add(units(48, unit));
+    let upper = units(down.saturating_add(28), unit);
+    let lower = lower_views(window, sizes, upper, below.y);
     let foot = lower.saturating_add(side.high().get());
+    let beside = units(130, unit).saturating_add(scope_of(window, View::Top).wide().get());
     let right = tables
         .x
-        .saturating_add(side.wide().get().max(units(tables_width(points), unit)));
+        .saturating_add(side.wide().get().max(units(tables_width(sizes), unit)));
+    let (wide, high) = size_of(unit, sizes, right, foot);
     Places {
         top: corner(left, upper),
         front: corner(left, lower),
-        side: corner(tables.x, lower),
+        side: corner(beside, lower),
         bar: corner(left, foot.saturating_add(units(42, unit))),
-        wide: right.saturating_add(units(20, unit)),
-        high: foot.saturating_add(units(60, unit)),
+        wide,
+        high,
     }
 }
 
@@ -295,20 +379,55 @@ fn put_tables(
     used: Used,
     ticks: &AxisTicks,
     sheet: &Sheet<'_>,
+    sizes: Sizes,
     points: &[Pointed],
 ) -> Result<Spot, NoMemory>
-    ensures { IfOk result (λ next. Adds (tables (filing sheet.now) used ticks.now points.now) out.old.items out.new.items) }
+    requires { 0 < sizes.room.rows }
+    ensures { IfOk result (λ next. Adds (tables (filing sheet.now) used ticks.now sizes.room points.now) out.old.items out.new.items) }
 {
     let features = sheet.world.tables().features();
-    let at = put_signs(out, at, unit, used, has_origin(ticks))?;
-    let at = put_points(out, at, unit, features, sheet.readings, points)?;
-    put_blocks(alloc, out, at, unit, sheet.block_names)
+    let room = sizes.room;
+    let below = put_signs(out, at, unit, used, has_origin(ticks))?;
+    let at = points_place(unit, sizes, at, below);
+    let at = put_points(out, at, unit, room, features, sheet.readings, points)?;
+    put_blocks(alloc, out, at, unit, room.names, sheet.block_names)
+}
+
+// The width and the height of a sheet on a screen, or in millimetres on a paper, where texts are a quarter of one for each unit.
+fn size_shown(unit: Unit, places: &Places, paper: Option<Paper>) -> (i64, i64) {
+    match paper {
+        Some(paper) => (
+            quotient(i64::from(wide_of(paper)), 4),
+            quotient(i64::from(high_of(paper)), 4),
+        ),
+        None => (
+            quotient(places.wide, unit.get()),
+            quotient(places.high, unit.get()),
+        ),
+    }
+}
+
+// In what it is measured.
+fn measure_of(paper: Option<Paper>) -> &'static [u8]
+    ensures { IsMute result.now }
+{
+    match paper {
+        Some(_) => b"mm",
+        None => b"",
+    }
 }
 
 // Appends the beginning of the sheet, with its size.
-fn put_size(out: &mut Vec<u8>, unit: Unit, places: &Places) -> Result<(), NoMemory>
+fn put_size(
+    out: &mut Vec<u8>,
+    unit: Unit,
+    places: &Places,
+    paper: Option<Paper>,
+) -> Result<(), NoMemory>
     ensures { OnOk result (Adds [] out.old.items out.new.items) }
 {
+    let (wide, high) = size_shown(unit, places, paper);
+    let measure = measure_of(paper);
     put(
         out,
         &[
@@ -317,9 +436,11 @@ fn put_size(out: &mut Vec<u8>, unit: Unit, places: &Places) -> Result<(), NoMemo
             Fragment::Text(b" "),
             Fragment::Number(places.high),
             Fragment::Text(b"\" width=\""),
-            Fragment::Number(quotient(places.wide, unit.get())),
+            Fragment::Number(wide),
+            Fragment::Text(measure),
             Fragment::Text(b"\" height=\""),
-            Fragment::Number(quotient(places.high, unit.get())),
+            Fragment::Number(high),
+            Fragment::Text(measure),
             Fragment::Text(b"\">\n"),
         ],
     )
@@ -345,7 +466,7 @@ fn put_head(
 ) -> Result<(), NoMemory>
     ensures { OnOk result (Adds (title_said (filing sheet.now) first.now ∷ []) out.old.items out.new.items) }
 {
-    put_size(out, unit, places)?;
+    put_size(out, unit, places, sheet.paper)?;
     put_title(out, sheet, first)
 }
 
@@ -405,13 +526,71 @@ fn put_ground(
     put_path(out, Class::Sheet, ground_of(places))
 }
 
-// Appends the bar that shows a length, and ends the sheet.
-fn put_foot(out: &mut Vec<u8>, window: Window, places: &Places) -> Result<(), NoMemory>
+// Appends the bar that shows a length.
+fn put_length(out: &mut Vec<u8>, window: Window, places: &Places) -> Result<(), NoMemory>
     ensures { OnOk result (Adds (bar_said window) out.old.items out.new.items) }
 {
     let scope = scope_of(window, View::Top);
     let wide = scope.wide().get();
-    put_bar(out, places.bar, window.unit(), window.grain(), wide)?;
+    put_bar(out, places.bar, window.unit(), window.grain(), wide)
+}
+
+// Appends the beginning of what stands in the frame of a paper.
+fn begin_paper(out: &mut Vec<u8>, unit: Unit, paper: Option<Paper>) -> Result<(), NoMemory>
+    ensures { OnOk result (Adds [] out.old.items out.new.items) }
+{
+    match paper {
+        Some(_) => begin_frame(out, unit),
+        None => Ok(()),
+    }
+}
+
+// Appends the title block, on a paper, below a heading of so many lines.
+fn put_block_if(
+    alloc: Global,
+    out: &mut Vec<u8>,
+    window: Window,
+    sheet: &Sheet<'_>,
+    lines: u16,
+    points: usize,
+) -> Result<(), NoMemory>
+    requires { lines ≤ 100 }
+    ensures { OnOk result (Adds (block_if (filing sheet.now) sheet.now.paper lines points window) out.old.items out.new.items) }
+{
+    match sheet.paper {
+        Some(paper) => {
+            let scale = scale_on(paper, lines, points, window);
+            let tip = sheet.part.bounds().tip;
+            put_block(
+                alloc,
+                out,
+                window.unit(),
+                paper,
+                sheet.title,
+                sheet.part_name,
+                tip,
+                scale,
+            )
+        }
+        None => Ok(()),
+    }
+}
+
+// Appends the bar that shows a length and the title block, and ends the sheet.
+fn put_foot(
+    alloc: Global,
+    out: &mut Vec<u8>,
+    window: Window,
+    places: &Places,
+    sheet: &Sheet<'_>,
+    lines: u16,
+    points: usize,
+) -> Result<(), NoMemory>
+    requires { lines ≤ 100 }
+    ensures { OnOk result (Adds (bar_said window ++ block_if (filing sheet.now) sheet.now.paper lines points window) out.old.items out.new.items) }
+{
+    put_length(out, window, places)?;
+    put_block_if(alloc, out, window, sheet, lines, points)?;
     put(out, &[Fragment::Text(b"</svg>\n")])
 }
 
@@ -433,11 +612,23 @@ fn put_whole(
     let mut heading = Vec::new(alloc);
     let contact = contact_of(marks);
     let down = put_heading(alloc, &mut heading, unit, first, sheet, is_drawn, contact)?;
+    let lines = heading_lines(sheet, is_drawn, contact);
+    let sizes = sizes_of(sheet.paper, lines, points.len(), window);
     let mut tables = Vec::new(alloc);
-    let place = tables_place(window, down);
+    let place = tables_place(window, sizes, down);
     let used = used_of(window, drawings);
-    let below = put_tables(alloc, &mut tables, place, unit, used, &ticks, sheet, points)?;
-    let places = places_of(window, place, below, points.len());
+    let below = put_tables(
+        alloc,
+        &mut tables,
+        place,
+        unit,
+        used,
+        &ticks,
+        sheet,
+        sizes,
+        points,
+    )?;
+    let places = places_of(window, sizes, down, place, below);
     let mut out = Vec::new(alloc);
     put_head(&mut out, unit, &places, sheet, first)?;
     let has_notes = !sheet.untried.is_empty();
@@ -449,6 +640,7 @@ fn put_whole(
         marks,
         has_notes,
     )?;
+    begin_paper(&mut out, unit, sheet.paper)?;
     out.append(&mut heading)?;
     let features = sheet.world.tables().features();
     put_drawings(
@@ -462,7 +654,7 @@ fn put_whole(
         points.len(),
     )?;
     out.append(&mut tables)?;
-    put_foot(&mut out, window, &places)?;
+    put_foot(alloc, &mut out, window, &places, sheet, lines, points.len())?;
     Ok(out)
 }
 
@@ -475,8 +667,10 @@ fn sheet_bytes(alloc: Global, sheet: &Sheet<'_>) -> Result<Vec<u8>, NoMemory>
     let numbered = points_on(all_points(alloc, sheet.marks)?, sheet.lines);
     let points = numbered.as_slice();
     let world = sheet.world;
-    let window = window_shown(sheet.part, world, marks, sheet.is_close);
+    let round = window_shown(sheet.part, world, marks, sheet.is_close);
     let is_drawn = draws_end(sheet.lines, sheet.marks);
+    let lines = heading_lines(sheet, is_drawn, contact_of(marks));
+    let window = window_on(sheet.paper, lines, points.len(), round);
     let drawings = drawings_of(alloc, window, sheet, is_drawn, marks, points)?;
     let line = first_line(alloc, world.tables(), world.stop(), sheet.done)?;
     let first = line.as_slice();

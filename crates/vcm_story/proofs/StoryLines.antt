@@ -55,7 +55,9 @@ use Rattle.vcm_steps.specs.Passages.{Passage, passage_at, passage_from, passages
 use Rattle.vcm_trace.specs.declared.told.Told.{Told}
 use Rattle.vcm_trace.specs.declared.told.Told.TheVariants as told
 use Rattle.vcm_trace.specs.Lines.{heading, line_front, told_of, next_text, value_shown, bracketed, touched_at, setting_length, told_text, step_end}
+use Rattle.vcm_trace.specs.Framed.{no_frames}
 use Rattle.vcm_trace.specs.Traces.{trace_line, open_at, last_line, trace_text}
+use Rattle.vcm_trace.proofs.FramedLemmas.{unframed}
 use Rattle.vcm_way.specs.Ways.{step_marks}
 use Rattle.vcm_story.specs.Laws.{StoriesAreClear, shown_line, StoriesTellSteps, StoriesTellTraces}
 use Rattle.vcm_rows.specs.Rows.{point_then, point_row, points_row, told_entries}
@@ -359,3 +361,4 @@ stories_tell_all part c shown is_listing notices n r =
     let last = last_line c (steps_taken part c n) (state_after part c n) (state_after part c n).world.stop in
     let lines_are = stories_tell_steps part c shown is_listing notices 0 n r ∙ ap (λ l. l ++ last) (every_passage part c n) in
     ap (λ l. heading ++ l) lines_are ∙ sym (append_assoc heading (flat_map (trace_line c.tables) (passages part c n)) last)
+    ∙ ap (λ l. (heading ++ l) ++ last) (sym (unframed (trace_line c.tables) (no_frames c.tables) (passages part c n)))

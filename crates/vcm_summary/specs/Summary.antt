@@ -6,7 +6,8 @@ use Rattle.vcm_machine.specs.declared.ran.End.TheVariants as ends
 use Rattle.vcm_machine.specs.Running.{started, later, RunEnded}
 use Rattle.vcm_steps.specs.declared.fault.Unfinished.{Unfinished}
 use Rattle.vcm_steps.specs.declared.fault.Unfinished.TheVariants.{NoMemory, Memory, Write}
-use Rattle.vcm_steps.specs.Passages.{passages, state_after, steps_taken}
+use Rattle.vcm_steps.specs.Passages.{state_after, steps_taken}
+use Rattle.vcm_trace.specs.Rows.{framed_steps}
 use Rattle.vcm_summary.specs.declared.summary.Summary.{Summary}
 use Rattle.vcm_summary.specs.Findings.{found_in}
 
@@ -14,7 +15,7 @@ use Rattle.vcm_summary.specs.Findings.{found_in}
 pub record IsSummed (part : Workpiece) (c : Code) (n from : ℕ) (x : Summary) : Type 0 where
   pub stop : x.stop ≡ (state_after part c n).world.stop
   pub done : x.done ≡ steps_taken part c n
-  pub findings : x.findings ≡ found_in from (passages part c n)
+  pub findings : x.findings ≡ found_in from (framed_steps part c n)
 
 -- memory was refused before such a run, or after so many of its steps, to a statement that makes an output line
 abbrev pub IsNotSummed : Workpiece → Code → ℕ → Unfinished → Type 0

@@ -1,17 +1,15 @@
 //! The points that are measured while a run is followed.
 
 ghost use Rattle.std.specs.Prelude.{◌≡◌, refl};
-ghost use Rattle.vcm_num.specs.Number.{checked};
-ghost use Rattle.vcm_spec.specs.Effect.{at_index};
-ghost use Rattle.vcm_trace.specs.Points.{gap};
-ghost use Rattle.vcm_summary.specs.Findings.{size_of, off_by, greater, with_off, with_point, told_with, found_with, begun_with, found_after, found_behind};
+ghost use Rattle.vcm_trace.specs.Framed.{frames_behind, framed};
+ghost use Rattle.vcm_summary.specs.Findings.{size_of, greater, with_off, with_point, told_with, found_with, begun_with, found_after, found_behind};
 
 use vcm_fields::BorrowedStatement;
-use vcm_num::{Axis, Fault, Point, sub};
+use vcm_frame::Frame;
 use vcm_spec::Feature;
 use vcm_state::World;
 use vcm_steps::{Follows, Unfinished};
-use vcm_trace::{Told, told_of};
+use vcm_trace::{Frames, Told, feature_at, frame_of, keep_frame, told_deviation, told_of};
 
 /// A measured point that lies off its nominal place: how far along the direction that it was measured in, either way, in micrometres; its feature by its index; how
 /// many steps were taken with its touch, and the source line of that.
@@ -39,36 +37,12 @@ pub(crate) const NOTHING_FOUND: Findings = Findings {
     greatest: None,
 };
 
-// How far an actual place lies from a nominal one along a direction.
-fn gap(nominal: Point, actual: Point, toward: Axis) -> Result<i64, Fault>
-    ensures { result ≡ checked (gap nominal actual toward) }
-{
-    let axis = toward.index();
-    let is = actual.0[axis];
-    let wanted = nominal.0[axis];
-    if toward.is_forward() {
-        sub(is, wanted)
-    } else {
-        sub(wanted, is)
-    }
-}
-
-// How long a length is, either way, if it has 64 bits.
-fn size_of(length: Result<i64, Fault>) -> Option<u64>
+// How long a length is, either way, if there is one.
+fn size_of(length: Option<i64>) -> Option<u64>
     ensures { result ≡ size_of length }
 {
     match length {
-        Ok(length) => Some(length.unsigned_abs()),
-        Err(_) => None,
-    }
-}
-
-// How far a point lies off, if its feature was declared.
-fn off_by(nominal: Option<Feature>, actual: Feature) -> Option<u64>
-    ensures { result ≡ off_by nominal actual }
-{
-    match nominal {
-        Some(nominal) => size_of(gap(nominal.at, actual.at, actual.toward)),
+        Some(length) => Some(length.unsigned_abs()),
         None => None,
     }
 }
@@ -107,46 +81,58 @@ fn with_off(
     }
 }
 
-// The feature that stands at an index, if there is one.
-fn feature_at(features: &[Option<Feature>], index: u16) -> Option<Feature>
-    ensures { result ≡ at_index features.now index }
-{
-    match features.get(index as usize) {
-        Some(feature) => *feature,
-        None => None,
-    }
-}
-
-// What was found with one point more.
+// What was found with one point more that was measured in the current frame, of a feature that was declared in such a one.
 fn with_point(
     found: Findings,
+    declared: Option<Frame>,
+    current: Frame,
     nominal: Option<Feature>,
     actual: Option<Feature>,
     feature: u16,
     step: u64,
     line: u32,
 ) -> Findings
-    ensures { result ≡ with_point found nominal actual feature step line }
+    ensures { result ≡ with_point found declared current nominal actual feature step line }
 {
     match actual {
-        Some(actual) => Findings {
-            begun: found.begun,
-            points: found.points.saturating_add(1),
-            greatest: with_off(found.greatest, off_by(nominal, actual), feature, step, line),
-        },
+        Some(actual) => {
+            let off = size_of(told_deviation(declared, current, nominal, actual));
+            Findings {
+                begun: found.begun,
+                points: found.points.saturating_add(1),
+                greatest: with_off(found.greatest, off, feature, step, line),
+            }
+        }
         None => found,
     }
 }
 
-// What was found with a statement that tells this, in the state after it.
-fn told_with(found: Findings, world: &World, told: Told, step: u64, line: u32) -> Findings
-    ensures { result ≡ told_with found world.now.state told step line }
+// What was found with a statement that tells this, in the state after it, where features were declared in these frames.
+fn told_with(
+    found: Findings,
+    frames: &Frames,
+    world: &World,
+    told: Told,
+    step: u64,
+    line: u32,
+) -> Findings
+    ensures { result ≡ told_with found frames.now world.now.state told step line }
 {
     match told {
         Told::Measured(index) => {
             let nominal = feature_at(world.nominal(), index);
             let actual = feature_at(world.actual(), index);
-            with_point(found, nominal, actual, index, step, line)
+            let declared = frame_of(frames, index);
+            with_point(
+                found,
+                declared,
+                world.frame(),
+                nominal,
+                actual,
+                index,
+                step,
+                line,
+            )
         }
         _ => found,
     }
@@ -155,15 +141,23 @@ fn told_with(found: Findings, world: &World, told: Told, step: u64, line: u32) -
 // What was found with a step that came to this stop, if it came to one.
 fn found_with(
     found: Findings,
+    frames: &Frames,
     statement: &BorrowedStatement<'_>,
     world: &World,
     step: u64,
 ) -> Findings
-    ensures { result ≡ found_with found statement.now.op statement.now.line world.now.state world.now.state.stop step }
+    ensures { result ≡ found_with found frames.now statement.now.op statement.now.line world.now.state world.now.state.stop step }
 {
     match world.stop() {
         Some(_) => found,
-        None => told_with(found, world, told_of(&statement.op), step, statement.line),
+        None => told_with(
+            found,
+            frames,
+            world,
+            told_of(&statement.op),
+            step,
+            statement.line,
+        ),
     }
 }
 
@@ -186,17 +180,25 @@ fn begun_with(found: Findings, from: u32, line: u32, step: u64) -> Findings
 fn found_one(
     found: Findings,
     from: u32,
+    frames: &Frames,
     statement: &BorrowedStatement<'_>,
     world: &World,
     step: u64,
 ) -> Findings
-    ensures { result ≡ found_after (begun_with found from statement.now.line step) statement.now.op statement.now.line world.now.state world.now.state.stop step }
+    ensures { result ≡ found_after (begun_with found from statement.now.line step) frames.now statement.now.op statement.now.line world.now.state world.now.state.stop step }
 {
     let begun = begun_with(found, from, statement.line, step);
     match begun.begun {
-        Some(_) => found_with(begun, statement, world, step),
+        Some(_) => found_with(begun, frames, statement, world, step),
         None => begun,
     }
+}
+
+/// What was found so far, and the frames in which features were declared.
+#[derive(Drop)]
+pub(crate) struct Progress {
+    pub(crate) found: Findings,
+    pub(crate) frames: Frames,
 }
 
 /// Finds the measured points of a run from a source line on, or all where that is 0.
@@ -205,7 +207,7 @@ pub(crate) struct Finder {
     pub(crate) from: u32,
 }
 
-impl Follows<Findings> for Finder {
+impl Follows<Progress> for Finder {
     type Before = ();
 
     type Fault = Unfinished;
@@ -214,15 +216,14 @@ impl Follows<Findings> for Finder {
 
     ghost Looked = { λ s b w statement. Unit {0} };
 
-    ghost Has = { λ s tables from to ps. to ≡ found_behind s.from from ps };
+    ghost Has = { λ s tables from to ps. (to.frames ≡ frames_behind from.frames ps) × (to.found ≡ found_behind s.from from.found (framed from.frames ps)) };
 
     ghost Broke = { λ s tables from to ps p f. ⊥ };
 
-    ghost nothing = { λ s tables x. refl };
+    ghost nothing = { λ s tables x. (refl, refl) };
 
     fn look(&self, _world: &World, _statement: &BorrowedStatement<'_>) {}
 
-    #[tactic(auto, using(crate::proofs::Found::found_more))]
     fn see(
         &self,
         _before: (),
@@ -231,9 +232,10 @@ impl Follows<Findings> for Finder {
         statement: &BorrowedStatement<'_>,
         world: &World,
         _next: u32,
-        to: &mut Findings,
+        to: &mut Progress,
     ) -> Result<(), Unfinished> {
-        *to = found_one(*to, self.from, statement, world, count);
+        to.found = found_one(to.found, self.from, &to.frames, statement, world, count);
+        keep_frame(&mut to.frames, statement, world);
         Ok(())
     }
 }

@@ -1,1 +1,3 @@
+pub mod FramedLemmas
 mod RowLemmas
+mod Roots

@@ -1,7 +1,7 @@
 -- What following a run has written is what is told of it, or a front of that.
 use Rattle.std.proofs.Common.{◌≡◌, ℕ, zero, suc, ◌+◌, ◌-◌, ◌<◌, ◌≤◌, ◌==◌, Bool, true, false, List, [], ◌∷◌, ◌++◌, length, take, slice_get, Option, Some, None}
 use Rattle.std.proofs.Common.{refl, sym, ap, ◌∙◌, subst, arith, append_assoc, length-append}
-use Rattle.std.proofs.lemmas.List.{append-nil, flat_map_more}
+use Rattle.std.proofs.lemmas.List.{append-nil}
 use Rattle.std.proofs.lemmas.Grind.{flat_map-append}
 use Rattle.std.specs.Prelude.{if◌then◌else◌, flat_map}
 use Rattle.std.specs.Io.KnownBytes.{Appends}
@@ -20,7 +20,9 @@ use Rattle.vcm_steps.proofs.PassageLemmas.{rest_of, taken_most, state_stopped, p
 use Rattle.vcm_steps.specs.declared.fault.Unfinished.{Unfinished}
 use Rattle.vcm_steps.specs.declared.fault.Unfinished.TheVariants as faults
 use Rattle.vcm_trace.specs.Rows.{RunRows, rows_front, open_row, last_row, rows_text, written_before, written_with, IsWritten, IsHalted, IsCutOff, IsNotWritten}
+use Rattle.vcm_trace.specs.Framed.{Frames, FramedStep, framed_step, no_frames, frames_behind, framed}
 use Rattle.vcm_trace.specs.inner.Going.{HasRows, HasBroken}
+use Rattle.vcm_trace.proofs.FramedLemmas.{framed_append, row_more}
 
 -- ---- bytes
 
@@ -46,27 +48,38 @@ front_is xs ys rest zs k e l =
     sym (take_after xs ys k) ∙ sym (front_append (length xs + k) (xs ++ ys) rest within) ∙ ap (take (length xs + k)) e
 
 -- one more row, and a front of it
-module _ (row : Passage → List ℕ) (a b d : Option (List ℕ)) (ps : List Passage) (p : Passage) (h : HasRows row a b ps) where
-  pub one_row : Appends b d (row p) → HasRows row a d (ps ++ p ∷ [])
-  one_row k = appends_more a b d _ _ _ (flat_map_more row [] ps p) h k
+module _ (row : FramedStep → List ℕ) (fs : Frames) (a b d : Option (List ℕ)) (ps : List Passage) (p : Passage) (h : HasRows row fs a b ps) where
+  pub one_row : Appends b d (row (framed_step (frames_behind fs ps) p)) → HasRows row fs a d (ps ++ p ∷ [])
+  one_row k = appends_more a b d _ _ _ (row_more row fs ps p) h k
 
-  pub part_of_row : AppendsFront b d (row p) → HasBroken row a d ps p (faults.Write p.count)
+  pub part_of_row : AppendsFront b d (row (framed_step (frames_behind fs ps) p)) → HasBroken row fs a d ps p (faults.Write p.count)
   part_of_row k = (refl, (k.0, k.1, appends_more a b d _ _ _ refl h k.2))
 
 module _ (t : RunRows) (part : Workpiece) (c : Code) where
   -- ---- texts
 
+  abbrev first : Frames
+  first = no_frames c.tables
+
+  abbrev rows_along : List Passage → List ℕ
+  rows_along ps = flat_map (t.row c.tables) (framed first ps)
+
   abbrev lines : ℕ → List ℕ
-  lines k = flat_map (t.row c.tables) (passages part c k)
+  lines k = rows_along (passages part c k)
+
+  -- the rows of more steps
+  more_rows : (ps qs : List Passage) → rows_along ps ++ flat_map (t.row c.tables) (framed (frames_behind first ps) qs) ≡ rows_along (ps ++ qs)
+  more_rows ps qs =
+      sym (flat_map-append (t.row c.tables) (framed first ps) (framed (frames_behind first ps) qs)) ∙ ap (flat_map (t.row c.tables)) (sym (framed_append first ps qs))
 
   -- what a trace begins with
   text_front : (n k : ℕ) → k ≤ n → (rest : List ℕ) × (rows_front t part c k ++ rest ≡ rows_text t part c n)
   text_front n k l =
       let r = rest_of part c k (n - k) in
       let end = last_row t c (steps_taken part c n) (state_after part c n) (state_after part c n).world.stop in
-      let more = flat_map (t.row c.tables) r.0 in
+      let more = flat_map (t.row c.tables) (framed (frames_behind first (passages part c k)) r.0) in
       let all : k + (n - k) ≡ n = omega (arith, l) in
-      let joined = sym (flat_map-append (t.row c.tables) (passages part c k) r.0) ∙ ap (flat_map (t.row c.tables)) r.1 ∙ ap lines all in (
+      let joined = more_rows (passages part c k) r.0 ∙ ap rows_along r.1 ∙ ap lines all in (
         more ++ end,
         sym (append_assoc (rows_front t part c k) more end) ∙ ap (λ x. x ++ end) (append_assoc t.before (lines k) more) ∙ ap (λ x. (t.before ++ x) ++ end) joined,
       )
@@ -75,9 +88,9 @@ module _ (t : RunRows) (part : Workpiece) (c : Code) where
   before_short zero = omega arith
   before_short (suc k) =
       let r = rest_of part c k 1 in
-      let e = ap (λ l. length (t.before ++ l)) (sym (flat_map-append (t.row c.tables) (passages part c k) r.0) ∙ ap (flat_map (t.row c.tables)) r.1
-      ∙ ap lines (let q : k + 1 ≡ suc k = omega arith in q)) in
-      omega (arith, e, length-append t.before (lines k), length-append t.before (lines k ++ flat_map (t.row c.tables) r.0), length-append (lines k) (flat_map (t.row c.tables) r.0))
+      let more = flat_map (t.row c.tables) (framed (frames_behind first (passages part c k)) r.0) in
+      let e = ap (λ l. length (t.before ++ l)) (more_rows (passages part c k) r.0 ∙ ap rows_along r.1 ∙ ap lines (let q : k + 1 ≡ suc k = omega arith in q)) in
+      omega (arith, e, length-append t.before (lines k), length-append t.before (lines k ++ more), length-append (lines k) more)
 
   with_either : (n k size : ℕ) → size < length (rows_text t part c n) → size < length (rows_front t part c k) → size < length (written_with t part c n k)
   with_either n k size p q = by (k == n)
@@ -95,20 +108,20 @@ module _ (t : RunRows) (part : Workpiece) (c : Code) where
   -- ---- where it broke off
 
   -- the line of a step could not be written
-  pub broken_off : (n : ℕ) (a b d : Option (List ℕ)) (f : Unfinished) → Appends a b t.before → IsBroken n part c (λ ps p. HasBroken (t.row c.tables) b d ps p f)
+  pub broken_off : (n : ℕ) (a b d : Option (List ℕ)) (f : Unfinished) → Appends a b t.before → IsBroken n part c (λ ps p. HasBroken (t.row c.tables) first b d ps p f)
       → IsNotWritten t part c n f a d
   broken_off n a b d faults.NoMemory h i = absurd i.broken
   broken_off n a b d (faults.Memory done) h i = absurd i.broken
   broken_off n a b d (faults.Write done) h i =
       let k = i.done in
       let xs = rows_front t part c k in
-      let ys = t.row c.tables i.last in
+      let ys = t.row c.tables (framed_step (frames_behind first (passages part c k)) i.last) in
       let j = i.broken.1.0 in
       let l = i.broken.1.1 in
       let r = text_front n (suc k) (let t = taken_most part c n in let u = i.taken in omega (arith, t, u)) in
       let line : xs ++ ys ≡ rows_front t part c (suc k) =
       append_assoc t.before (lines k) ys
-      ∙ ap (λ x. t.before ++ x) (flat_map_more (t.row c.tables) [] (passages part c k) i.last ∙ ap (flat_map (t.row c.tables)) (sym i.passages_are)) in
+      ∙ ap (λ x. t.before ++ x) (row_more (t.row c.tables) first (passages part c k) i.last ∙ ap rows_along (sym i.passages_are)) in
       let text = ap (λ x. x ++ r.0) line ∙ r.1 in
       let below = below_all xs ys r.0 (rows_text t part c n) j text l in
       let within = subst (λ z. length xs + j < length z) line (omega (arith, length-append xs ys, l)) in
@@ -137,7 +150,7 @@ module _ (t : RunRows) (part : Workpiece) (c : Code) where
   -- ---- ends
 
   module _ (n : ℕ) (old m : Running) (ran : Ran) (is : old ≡ started part c) (run : HasRun n old m ran) (a b d : Option (List ℕ)) (h : Appends a b t.before)
-      (w : HasRows (t.row c.tables) b d (passages part c ran.done)) where
+      (w : HasRows (t.row c.tables) first b d (passages part c ran.done)) where
     ended : RunEnded n (started part c) m ran.done ran.end
     ended = subst (λ o. RunEnded n o m ran.done ran.end) is run.ended
 
@@ -164,7 +177,7 @@ module _ (t : RunRows) (part : Workpiece) (c : Code) where
         let there : (state_after part c n).world.stop ≡ Some r.1.0 = ap (λ x. x.world.stop) far ∙ here in
         let text : rows_front t part c ran.done ≡ rows_text t part c n =
         sym (append-nil (rows_front t part c ran.done))
-        ∙ ap (λ ps. (t.before ++ flat_map (t.row c.tables) ps) ++ []) (sym (passages_stopped part c n ran.done r.1.0 r.0 here))
+        ∙ ap (λ ps. (t.before ++ rows_along ps) ++ []) (sym (passages_stopped part c n ran.done r.1.0 r.0 here))
         ∙ ap (λ o. rows_front t part c n ++ last_row t c (steps_taken part c n) (state_after part c n) o) (sym there) in
         record { stop_is = s ∙ r.1.1 ∙ sym there; written = subst (λ l. Appends a d l) text written }
 

@@ -1,4 +1,6 @@
 pub mod Lines
+pub mod Framed
+pub mod Deviations
 pub mod Rows
 pub mod Traces
 pub mod Points

@@ -11,20 +11,25 @@ use Rattle.vcm_code.specs.CodeTable.{CodeState}
 use Rattle.vcm_code.specs.Code.{CodeStatement}
 use Rattle.vcm_machine.specs.declared.ran.End.TheVariants.{NoMemory}
 use Rattle.vcm_machine.specs.Running.{started, later, RunEnded}
-use Rattle.vcm_steps.specs.Passages.{Passage, state_after, steps_taken, passages}
+use Rattle.vcm_steps.specs.Passages.{state_after, steps_taken, passages}
 use Rattle.vcm_steps.specs.declared.fault.Unfinished.{Unfinished}
 use Rattle.vcm_steps.specs.declared.fault.Unfinished.TheVariants as faults
+use Rattle.vcm_trace.specs.Framed.{FramedStep, no_frames, framed}
 
--- what stands before the steps, the row of a step, and what stands after them where the run has not stopped: after so many steps, before the statement with
+-- what stands before the steps, the row of a step with the frames in which features were declared before it, and what stands after them where the run has not stopped: after so many steps, before the statement with
 -- this number and source line
 pub record RunRows : Type 0 where
   pub before : List ℕ
-  pub row : Tables → Passage → List ℕ
+  pub row : Tables → FramedStep → List ℕ
   pub after : (count next line : ℕ) → World → List ℕ
 
--- what stands there of the first so many steps
+-- the first so many steps, each with those frames
+abbrev pub framed_steps : Workpiece → Code → ℕ → List FramedStep
+framed_steps part c k = framed (no_frames c.tables) (passages part c k)
+
+-- what stands there of them
 abbrev pub rows_front : RunRows → Workpiece → Code → ℕ → List ℕ
-rows_front t part c k = t.before ++ flat_map (t.row c.tables) (passages part c k)
+rows_front t part c k = t.before ++ flat_map (t.row c.tables) (framed_steps part c k)
 
 -- what stands at a state in which the run has not stopped, after so many steps, before this statement
 abbrev pub open_row : RunRows → ℕ → CodeState → Option CodeStatement → List ℕ

@@ -16,7 +16,7 @@ trace_line tables p = step_line tables p.count p.number p.statement p.after p.ne
 
 -- a header, the line of each step that is taken, and one more where it has not stopped
 abbrev pub trace_rows : RunRows
-trace_rows = record { before = heading; row = trace_line; after = open_line }
+trace_rows = record { before = heading; row = λ tables s. trace_line tables s.passage; after = open_line }
 
 -- the line of a state in which it has not stopped, after so many steps, before this statement
 abbrev pub open_at : ℕ → CodeState → Option CodeStatement → List ℕ

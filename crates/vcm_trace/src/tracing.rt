@@ -3,6 +3,8 @@
 ghost use Rattle.vcm_trace.specs.Traces.{trace_rows};
 ghost use Rattle.vcm_trace.specs.Points.{point_rows};
 
+use crate::calls::TellsCalls;
+use crate::framed::Frames;
 use crate::lines::{write_open, write_step};
 use crate::points::{point_heading, write_point_row};
 use crate::rows::WritesRows;
@@ -24,6 +26,7 @@ impl<W: Write> WritesRows<W> for TraceRows {
 
     fn write_row(
         &self,
+        _frames: &Frames,
         count: u64,
         number: u32,
         statement: &BorrowedStatement<'_>,
@@ -47,14 +50,16 @@ impl<W: Write> WritesRows<W> for TraceRows {
 }
 
 /// The points that a run measures: a header, and a row for each as it is touched, with its nominal and its actual place and its direction in part
-/// coordinates, in millimetres; where it is wanted, with its place and its direction in machine coordinates too.
+/// coordinates, in millimetres, and how far it lies off where that can be told; where it is wanted, with its place and its direction in machine coordinates too; and with
+/// the CALLs that its statement comes from.
 #[derive(Clone, Copy)]
-pub struct PointRows {
+pub struct PointRows<'a, C> {
     pub is_machine: bool,
+    pub calls: &'a C,
 }
 
-impl<W: Write> WritesRows<W> for PointRows {
-    ghost Rows = { λ s. point_rows s.is_machine };
+impl<W: Write, C: TellsCalls<W>> WritesRows<W> for PointRows<'_, C> {
+    ghost Rows = { λ s. point_rows s.is_machine (C.Calls s.calls.now) };
 
     fn write_before(&self, writer: &mut W) -> Result<(), WriteFault> {
         write_all(writer, point_heading(self.is_machine))
@@ -62,14 +67,24 @@ impl<W: Write> WritesRows<W> for PointRows {
 
     fn write_row(
         &self,
+        frames: &Frames,
         count: u64,
-        _number: u32,
+        number: u32,
         statement: &BorrowedStatement<'_>,
         world: &World,
         _next: u32,
         writer: &mut W,
     ) -> Result<(), WriteFault> {
-        write_point_row(self.is_machine, count, statement, world, writer)
+        write_point_row(
+            self.is_machine,
+            self.calls,
+            frames,
+            count,
+            number,
+            statement,
+            world,
+            writer,
+        )
     }
 
     fn write_open(

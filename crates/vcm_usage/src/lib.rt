@@ -421,6 +421,7 @@ const USAGES: &[Usage] = &[
             Choice::Close,
             Choice::Sheet,
             Choice::Stretch,
+            Choice::Paper,
             Choice::Probe,
             Choice::Whole,
             Choice::Frame,

@@ -21,6 +21,8 @@ pub enum Choice {
     Sheet,
     /// `--lines A-B`.
     Stretch,
+    /// `--paper a4|a3`.
+    Paper,
     /// `--probe PROBE`.
     Probe,
     /// `--tip N`.
@@ -201,6 +203,12 @@ impl Choice {
                 "A-B",
                 "the source lines of the way",
                 "Draws a sheet with the way of the statements on these source lines alone, as 80-115",
+            ),
+            Choice::Paper => valued(
+                "paper",
+                "a4|a3",
+                "the paper of the sheet",
+                "Draws a sheet on paper, a4 or a3 with the longer side across: true to scale, with letters of 2.5 mm, a frame and a title block",
             ),
             Choice::Probe => filed(
                 "probe",

@@ -6,7 +6,7 @@ pub(crate) fn head_1() -> &'static [u8] {
 <html lang=\"en\">
 <head>
 <meta charset=\"utf-8\">
-<meta http-equiv=\"Content-Security-Policy\" content=\"default-src 'none'; script-src 'sha256-V3Wp0zgJFWoQAhCZCyHNe0iT4jXyKwrCc8pdZoBN6x0='; style-src 'sha256-LtivpBrPwpzyqQpjD/zbtDgwPh6S9dRymkreRXOggXU='; base-uri 'none'; form-action 'none'\">
+<meta http-equiv=\"Content-Security-Policy\" content=\"default-src 'none'; script-src 'sha256-pzIOcTSaJ0TyJ47hR9OumN72DEKD1POej4BX8mlDZSM='; style-src 'sha256-LtivpBrPwpzyqQpjD/zbtDgwPh6S9dRymkreRXOggXU='; base-uri 'none'; form-action 'none'\">
 <meta name=\"viewport\" content=\"width=device-width, initial-scale=1\">
 <meta name=\"color-scheme\" content=\"light dark\">
 <title>vcm view</title>

@@ -560,12 +560,15 @@ pub(crate) fn script_14() -> &'static [u8] {
   return now && now !== probeAt(run, k - 1) ? `; ${now.name} is on` : \"\";
 }
 
-// How far an actual point lies from its nominal one along its direction, in micrometres.
+// Whether two frames are the same: their origin and their axes.
+const isSameFrame = (one, other) => one.origin.join() === other.origin.join() && one.axes.join() === other.axes.join();
+
+// How far a point that a step measured lies from its nominal one along its direction, in micrometres; null where its FEAT isn't known to have been carried out in the frame of the measurement.
 function deviationOf(run, name, step) {
-  const nominal = run.nominal.get(name), actual = run.actual.get(name);
+  const nominal = run.nominal.get(name), actual = run.actual.get(name), declared = nominal ? nominal.setAt(step) : null;
   const n = nominal && nominal.at(step), a = actual && actual.at(step);
-  if (!n || !a) return null;
-  return [0, 1, 2].reduce((sum, k) => sum + (micrometres(a[k]) - micrometres(n[k])) * Number(n[3 + k]), 0);
+  if (!n || !a || declared === null || !isSameFrame(run.frame.at(declared), run.frame.at(step))) return null;
+  return [0, 1, 2].reduce((sum, k) => sum + (micrometres(a[k]) - micrometres(n[k])) * Number(a[3 + k]), 0);
 }
 
 // Elements of the page: made with texts as texts, and lists of which only what changes is made anew.
@@ -590,7 +593,12 @@ const ROWS_OF_PIECE = 25;
 class Rows {
   // `box` scrolls, `holder` takes the pieces, which are elements of this tag; `make` makes the row of a number, and `update` sets what of it hangs on the step.
   constructor(box, holder, tag, high, make, update) {
-    Object.assign(this, { box, holder, tag, high, make, update, count: 0, pieces: [], isOnPaper: false });
+"
+}
+
+/// Part 15 of the script.
+pub(crate) fn script_15() -> &'static [u8] {
+    b"    Object.assign(this, { box, holder, tag, high, make, update, count: 0, pieces: [], isOnPaper: false });
     this.watch = new IntersectionObserver((seen) => { for (const it of seen) this.seen(it.target, it.isIntersecting); }, { root: box, rootMargin: \"150px\" });
   }
   // So many rows, as they are behind a step. Where there are more or fewer than before, the last ones are in view.
@@ -598,12 +606,7 @@ class Rows {
     this.k = k;
     const isOther = count !== this.count;
     this.count = count;
-"
-}
-
-/// Part 15 of the script.
-pub(crate) fn script_15() -> &'static [u8] {
-    b"    while (this.pieces.length * ROWS_OF_PIECE < count) this.add();
+    while (this.pieces.length * ROWS_OF_PIECE < count) this.add();
     while ((this.pieces.length - 1) * ROWS_OF_PIECE >= count && this.pieces.length) this.drop();
     this.pieces.forEach((it, i) => {
       if (it.isSeen || this.isOnPaper || i === 0 || (isGrowing && i >= this.pieces.length - 2)) this.fill(it); else this.empty(it);
@@ -644,7 +647,12 @@ pub(crate) fn script_15() -> &'static [u8] {
     own.forEach((row, i) => this.update(row, piece.from + i, this.k));
   }
   empty(piece) {
-    const wanted = Math.min(ROWS_OF_PIECE, this.count - piece.from), high = wanted * this.high;
+"
+}
+
+/// Part 16 of the script.
+pub(crate) fn script_16() -> &'static [u8] {
+    b"    const wanted = Math.min(ROWS_OF_PIECE, this.count - piece.from), high = wanted * this.high;
     if (piece.rows === null && piece.high === high) return;
     const room = document.createElement(this.tag === \"tbody\" ? \"tr\" : \"li\");
     room.style.height = high + \"px\";
@@ -659,12 +667,7 @@ pub(crate) fn script_15() -> &'static [u8] {
 }
 
 // Sets a text or a class where it is another one than stands there.
-"
-}
-
-/// Part 16 of the script.
-pub(crate) fn script_16() -> &'static [u8] {
-    b"function setText(it, text) {
+function setText(it, text) {
   if (it.textContent !== text) it.textContent = text;
 }
 function setClass(it, className) {
@@ -693,7 +696,12 @@ function readColours() {
 
 // Colours between two, as #rrggbb.
 function between(one, two, t) {
-  const of = (c, i) => parseInt(c.slice(1 + 2 * i, 3 + 2 * i), 16);
+"
+}
+
+/// Part 17 of the script.
+pub(crate) fn script_17() -> &'static [u8] {
+    b"  const of = (c, i) => parseInt(c.slice(1 + 2 * i, 3 + 2 * i), 16);
   return \"#\" + [0, 1, 2].map((i) => Math.round(of(one, i) + t * (of(two, i) - of(one, i))).toString(16).padStart(2, \"0\")).join(\"\");
 }
 
@@ -703,12 +711,7 @@ function niceStep(least) {
   return [1, 2, 5, 10].map((x) => x * power).find((x) => x >= least);
 }
 
-"
-}
-
-/// Part 17 of the script.
-pub(crate) fn script_17() -> &'static [u8] {
-    b"// Whether a way has so many pieces that they would cover the workpiece. Of such a one the last part up to a step is drawn strongly, from the piece that is answered on.
+// Whether a way has so many pieces that they would cover the workpiece. Of such a one the last part up to a step is drawn strongly, from the piece that is answered on.
 const isDense = (run) => run.kinds.length > 2000;
 const strongFrom = (run, k) => (isDense(run) ? Math.max(0, run.pieceFrom[k] - 400) : 0);
 
@@ -741,7 +744,12 @@ function* pointsOfWhole(run) {
 // Names at points, each at the first of four places where it meets none that stands already, or left out.
 class Labels {
   constructor(g, colours, width, height) {
-    Object.assign(this, { g, colours, width, height, taken: [], points: [] });
+"
+}
+
+/// Part 18 of the script.
+pub(crate) fn script_18() -> &'static [u8] {
+    b"    Object.assign(this, { g, colours, width, height, taken: [], points: [] });
   }
   put(text, x, y, colour, always = false, away = 10) {
     const g = this.g;
@@ -750,12 +758,7 @@ class Labels {
     g.font = \"600 11px system-ui, sans-serif\";
     const w = g.measureText(text).width;
     for (const [left, top] of [[x + away, y - 17], [x + away, y + 4], [x - away - w, y - 17], [x - away - w, y + 4]]) {
-"
-}
-
-/// Part 18 of the script.
-pub(crate) fn script_18() -> &'static [u8] {
-    b"      const box = [left - 2, top, left + w + 2, top + 14];
+      const box = [left - 2, top, left + w + 2, top + 14];
       const inside = left >= 2 && left + w <= this.width - 2 && top >= 2 && top + 14 <= this.height - 2;
       const free = this.taken.every((it) => box[0] > it[2] || box[2] < it[0] || box[1] > it[3] || box[3] < it[1]);
       if (!always && !(inside && free)) continue;
@@ -793,7 +796,12 @@ class Sheet {
     this.width = this.canvas.clientWidth;
     this.height = this.canvas.clientHeight;
     this.ratio = ratio;
-    const w = Math.round(this.width * ratio), h = Math.round(this.height * ratio);
+"
+}
+
+/// Part 19 of the script.
+pub(crate) fn script_19() -> &'static [u8] {
+    b"    const w = Math.round(this.width * ratio), h = Math.round(this.height * ratio);
     if (this.canvas.width !== w || this.canvas.height !== h) {
       this.canvas.width = w;
       this.canvas.height = h;
@@ -806,12 +814,7 @@ class Sheet {
   y(p) { return this.height / 2 - (p - this.camera.centre[this.sheet.up]) * this.camera.scale; }
   place(at) { return [this.x(at[this.sheet.right]), this.y(at[this.sheet.up])]; }
 
-"
-}
-
-/// Part 19 of the script.
-pub(crate) fn script_19() -> &'static [u8] {
-    b"  // Lines, blocks and, faintly, the whole way (of a very long run each of so many pieces): what stays from step to step.
+  // Lines, blocks and, faintly, the whole way (of a very long run each of so many pieces): what stays from step to step.
   drawFixed(colours, met) {
     const c = this.camera;
     const wanted = [met.join(), c.centre.join(), c.scale, this.canvas.width, this.canvas.height, colours.paper].join(\";\");
@@ -841,7 +844,12 @@ pub(crate) fn script_19() -> &'static [u8] {
     for (let x = Math.ceil((centre[right] - half) / step) * step; x <= centre[right] + half; x += step) { g.moveTo(this.x(x), 0); g.lineTo(this.x(x), this.height); }
     for (let y = Math.ceil((centre[up] - high) / step) * step; y <= centre[up] + high; y += step) { g.moveTo(0, this.y(y)); g.lineTo(this.width, this.y(y)); }
     g.stroke();
-    const run = this.run;
+"
+}
+
+/// Part 20 of the script.
+pub(crate) fn script_20() -> &'static [u8] {
+    b"    const run = this.run;
     g.setLineDash([9, 3, 2, 3]);
     g.strokeStyle = colours.muted;
     g.strokeRect(this.x(run.low[right]), this.y(run.high[up]), (run.high[right] - run.low[right]) * scale, (run.high[up] - run.low[up]) * scale);
@@ -852,12 +860,7 @@ pub(crate) fn script_19() -> &'static [u8] {
     const step = niceStep(44 / this.camera.scale), long = step * this.camera.scale, text = step < 1000 ? step + \" \\u00b5m\" : step / 1000 + \" mm\";
     g.font = \"11px system-ui, sans-serif\";
     for (const [colour, wide] of [[colours.paper, 4], [colours.ink, 1]]) {
-"
-}
-
-/// Part 20 of the script.
-pub(crate) fn script_20() -> &'static [u8] {
-    b"      g.strokeStyle = colour;
+      g.strokeStyle = colour;
       g.lineWidth = wide;
       g.beginPath();
       g.moveTo(8.5, this.height - 13); g.lineTo(8.5, this.height - 8.5); g.lineTo(8.5 + long, this.height - 8.5); g.lineTo(8.5 + long, this.height - 13);
@@ -890,7 +893,12 @@ pub(crate) fn script_20() -> &'static [u8] {
     }
   }
 
-  // Pieces from one number up to another, those of a kind in one go.
+"
+}
+
+/// Part 21 of the script.
+pub(crate) fn script_21() -> &'static [u8] {
+    b"  // Pieces from one number up to another, those of a kind in one go.
   drawPieces(g, colours, from, to, wide) {
     const { right, up } = this.sheet, ends = this.run.ends, kinds = this.run.kinds;
     const thin = isDense(this.run) ? 0.6 : 1;
@@ -900,12 +908,7 @@ pub(crate) fn script_20() -> &'static [u8] {
       g.setLineDash(to - from > 20000 ? [] : dashes[kind]);
       // a stroke of very many pieces that lie over each other is slow: so few in one go, and none that would not be seen
       let held = 0, lastX = NaN, lastY = NaN;
-"
-}
-
-/// Part 21 of the script.
-pub(crate) fn script_21() -> &'static [u8] {
-    b"      g.beginPath();
+      g.beginPath();
       for (let i = from; i < to; i++) {
         if (kinds[i] !== kind) continue;
         const x = this.x(ends[6 * i + right]), y = this.y(ends[6 * i + up]), p = this.x(ends[6 * i + 3 + right]), q = this.y(ends[6 * i + 3 + up]);
@@ -935,19 +938,19 @@ pub(crate) fn script_21() -> &'static [u8] {
     for (let i = now; i < end; i++) this.drawCurrent(g, colours, i);
     const touched = run.touchSteps.count(k);
     for (let i = Math.max(0, touched - 2500); i < touched; i++) this.dot(g, colours, run.touches[i].at, colours.s, dotSize(run));
-    this.labels = new Labels(g, colours, this.width, this.height);
+"
+}
+
+/// Part 22 of the script.
+pub(crate) fn script_22() -> &'static [u8] {
+    b"    this.labels = new Labels(g, colours, this.width, this.height);
     this.labels.keep(...this.place(probe), 7);
     if (run.contact && run.contact.step === k) this.labels.put(blockText(run, run.contact.block), ...this.place(run.contact.at), colours.danger, true, Math.max(10, tipAt(run, k) * this.camera.scale + 5));
     this.mark(g, colours, run.home, \"home\", colours.muted);
     for (const turn of turnsUpTo(run, k)) this.drawTurn(g, colours, turn, turn.step === k);
     this.drawBoxes(g, colours, k, probe);
     this.drawProbe(g, colours, probe, tipAt(run, k));
-"
-}
-
-/// Part 22 of the script.
-pub(crate) fn script_22() -> &'static [u8] {
-    b"    if (run.contact && run.contact.step === k) this.drawContact(g, colours, run.contact);
+    if (run.contact && run.contact.step === k) this.drawContact(g, colours, run.contact);
     if (run.touches.length <= 200) this.names(touched, colours.ink);
   }
 
@@ -980,7 +983,12 @@ pub(crate) fn script_22() -> &'static [u8] {
 
   mark(g, colours, at, text, colour) {
     const [x, y] = this.place(at);
-    g.strokeStyle = colour;
+"
+}
+
+/// Part 23 of the script.
+pub(crate) fn script_23() -> &'static [u8] {
+    b"    g.strokeStyle = colour;
     g.lineWidth = 1.5;
     g.strokeRect(x - 4, y - 4, 8, 8);
     this.labels.put(text, x, y, colour);
@@ -997,12 +1005,7 @@ pub(crate) fn script_22() -> &'static [u8] {
     g.lineWidth = 2;
     if (half > 4) {
       g.globalAlpha = 0.25;
-"
-}
-
-/// Part 23 of the script.
-pub(crate) fn script_23() -> &'static [u8] {
-    b"      g.fillRect(x - half, y - half, 2 * half, 2 * half);
+      g.fillRect(x - half, y - half, 2 * half, 2 * half);
       g.globalAlpha = 1;
       g.strokeRect(x - half, y - half, 2 * half, 2 * half);
     } else {
@@ -1037,7 +1040,12 @@ pub(crate) fn script_23() -> &'static [u8] {
     g.lineWidth = 1;
     g.setLineDash([1, 4]);
     g.beginPath();
-    arcOf(turn).forEach((at, i) => (i ? g.lineTo(...this.place(at)) : g.moveTo(...this.place(at))));
+"
+}
+
+/// Part 24 of the script.
+pub(crate) fn script_24() -> &'static [u8] {
+    b"    arcOf(turn).forEach((at, i) => (i ? g.lineTo(...this.place(at)) : g.moveTo(...this.place(at))));
     if (isNow) for (const end of [turn.from, turn.to]) { g.moveTo(...this.place(turn.pivot)); g.lineTo(...this.place(end)); }
     g.stroke();
     g.setLineDash([]);
@@ -1046,12 +1054,7 @@ pub(crate) fn script_23() -> &'static [u8] {
     const [x, y] = this.place(turn.pivot);
     g.strokeStyle = colours.ink;
     g.lineWidth = 1.5;
-"
-}
-
-/// Part 24 of the script.
-pub(crate) fn script_24() -> &'static [u8] {
-    b"    g.beginPath(); g.arc(x, y, 4, 0, 7); g.moveTo(x - 7, y); g.lineTo(x + 7, y); g.moveTo(x, y - 7); g.lineTo(x, y + 7); g.stroke();
+    g.beginPath(); g.arc(x, y, 4, 0, 7); g.moveTo(x - 7, y); g.lineTo(x + 7, y); g.moveTo(x, y - 7); g.lineTo(x, y + 7); g.stroke();
     this.labels.put(\"pivot\", x, y, colours.ink);
   }
 
@@ -1085,7 +1088,12 @@ pub(crate) fn script_24() -> &'static [u8] {
 function distance(x, y, a, b, c, d) {
   const u = c - a, v = d - b, long = u * u + v * v;
   const t = long ? Math.max(0, Math.min(1, ((x - a) * u + (y - b) * v) / long)) : 0;
-  return Math.hypot(x - a - t * u, y - b - t * v);
+"
+}
+
+/// Part 25 of the script.
+pub(crate) fn script_25() -> &'static [u8] {
+    b"  return Math.hypot(x - a - t * u, y - b - t * v);
 }
 
 // The view in space, by WebGL: blocks with their depths, the way in front of and, faintly, behind them.
@@ -1094,12 +1102,7 @@ const blockShader = [
   `attribute vec3 at; attribute vec3 face; uniform mat4 look; uniform vec3 tone, high; varying vec3 shown;
    void main() { gl_Position = look * vec4(at, 1.0); float light = face.z > 0.5 ? 1.0 : face.z < -0.5 ? 0.35 : abs(face.x) > 0.5 ? 0.62 : 0.8;
      shown = mix(tone, high, light) * (0.72 + 0.28 * light); }`,
-"
-}
-
-/// Part 25 of the script.
-pub(crate) fn script_25() -> &'static [u8] {
-    b"  `precision mediump float; varying vec3 shown; void main() { gl_FragColor = vec4(shown, 1.0); }`,
+  `precision mediump float; varying vec3 shown; void main() { gl_FragColor = vec4(shown, 1.0); }`,
 ];
 const lineShader = [
   `attribute vec3 at; uniform mat4 look; uniform float lift; void main() { gl_Position = look * vec4(at, 1.0); gl_Position.z -= lift; }`,
@@ -1114,7 +1117,12 @@ const wayShader = [
      vec4 p = mix(a, b, corner.x); p.xy += across * corner.y * w / size; p.z -= 0.0006; gl_Position = p;
      int n = int(piece.y + 0.5); shown = n == 0 ? colours[0] : n == 1 ? colours[1] : n == 2 ? colours[2] : n == 3 ? colours[3] : n == 4 ? colours[4] : colours[5];
      shown.a *= faint * (piece.x > now || piece.x < since ? pale : 1.0); along = corner.x * len; kind = piece.y; }`,
-  `precision mediump float; varying vec4 shown; varying float along, kind;
+"
+}
+
+/// Part 26 of the script.
+pub(crate) fn script_26() -> &'static [u8] {
+    b"  `precision mediump float; varying vec4 shown; varying float along, kind;
    void main() { float n = floor(kind + 0.5); if ((n == 1.0 || n == 4.0) && mod(along, 11.0) > 7.0) discard; if (n == 5.0 && mod(along, 17.0) > 11.0) discard; if (n == 2.0 && mod(along, 6.0) > 2.5) discard; gl_FragColor = vec4(shown.rgb * shown.a, shown.a); }`,
 ];
 const wayKinds = \"marsxe\";
@@ -1126,12 +1134,7 @@ class Solid {
     this.over = over;
     this.camera = camera;
     this.azimuth = -0.62;
-"
-}
-
-/// Part 26 of the script.
-pub(crate) fn script_26() -> &'static [u8] {
-    b"    this.elevation = 0.5;
+    this.elevation = 0.5;
     this.offset = [0, 0, 0];
     this.frames = 0;
     this.isSlow = false;
@@ -1166,7 +1169,12 @@ pub(crate) fn script_26() -> &'static [u8] {
   buffer(numbers) {
     const gl = this.gl, buffer = gl.createBuffer();
     gl.bindBuffer(gl.ARRAY_BUFFER, buffer);
-    gl.bufferData(gl.ARRAY_BUFFER, numbers, gl.STATIC_DRAW);
+"
+}
+
+/// Part 27 of the script.
+pub(crate) fn script_27() -> &'static [u8] {
+    b"    gl.bufferData(gl.ARRAY_BUFFER, numbers, gl.STATIC_DRAW);
     return buffer;
   }
 
@@ -1176,12 +1184,7 @@ pub(crate) fn script_26() -> &'static [u8] {
     const n = this.run.blocks.length, faces = new Float32Array(n * 36 * 6), lines = new Float32Array(n * 24 * 3);
     const sides = [[0, 2, 6, 4, -1, 0, 0], [1, 3, 7, 5, 1, 0, 0], [0, 1, 5, 4, 0, -1, 0], [2, 3, 7, 6, 0, 1, 0], [0, 1, 3, 2, 0, 0, -1], [4, 5, 7, 6, 0, 0, 1]];
     const edges = [0, 1, 0, 2, 0, 4, 1, 3, 1, 5, 2, 3, 2, 6, 3, 7, 4, 5, 4, 6, 5, 7, 6, 7];
-"
-}
-
-/// Part 27 of the script.
-pub(crate) fn script_27() -> &'static [u8] {
-    b"    let f = 0, e = 0;
+    let f = 0, e = 0;
     this.run.blocks.forEach((b) => {
       const low = this.local(b), high = this.local(b.slice(3));
       const corner = (list, at, c) => { list[at] = c & 1 ? high[0] : low[0]; list[at + 1] = c & 2 ? high[1] : low[1]; list[at + 2] = c & 4 ? high[2] : low[2]; };
@@ -1211,19 +1214,19 @@ pub(crate) fn script_27() -> &'static [u8] {
   }
 
   makeFloor() {
-    const { low, high } = this.box, span = Math.max(high[0] - low[0], high[1] - low[1], 1000), step = niceStep(span / 9), lines = [];
+"
+}
+
+/// Part 28 of the script.
+pub(crate) fn script_28() -> &'static [u8] {
+    b"    const { low, high } = this.box, span = Math.max(high[0] - low[0], high[1] - low[1], 1000), step = niceStep(span / 9), lines = [];
     const from = [0, 1].map((k) => Math.floor((low[k] - step / 2) / step) * step), to = [0, 1].map((k) => Math.ceil((high[k] + step / 2) / step) * step);
     for (let x = from[0]; x <= to[0]; x += step) lines.push(...this.local([x, from[1], this.floor]), ...this.local([x, to[1], this.floor]));
     for (let y = from[1]; y <= to[1]; y += step) lines.push(...this.local([from[0], y, this.floor]), ...this.local([to[0], y, this.floor]));
     this.ground = { buffer: this.buffer(new Float32Array(lines)), count: lines.length / 3 };
   }
 
-"
-}
-
-/// Part 28 of the script.
-pub(crate) fn script_28() -> &'static [u8] {
-    b"  // Where a point stands on the screen: right, up and depth, as pixels from the middle.
+  // Where a point stands on the screen: right, up and depth, as pixels from the middle.
   seen(p) {
     const c = this.centre(), sa = Math.sin(this.azimuth), ca = Math.cos(this.azimuth), se = Math.sin(this.elevation), ce = Math.cos(this.elevation);
     const x = p[0] - c[0], y = p[1] - c[1], z = p[2] - c[2], s = this.scale();
@@ -1243,7 +1246,12 @@ pub(crate) fn script_28() -> &'static [u8] {
       const x = p[0] - c[0], y = p[1] - c[1], z = p[2] - c[2], u = ca * x + sa * y, v = (ca * y - sa * x) * se + z * ce;
       left = Math.min(left, u); right = Math.max(right, u); low = Math.min(low, v); high = Math.max(high, v);
     }
-    const u = (left + right) / 2, v = (low + high) / 2;
+"
+}
+
+/// Part 29 of the script.
+pub(crate) fn script_29() -> &'static [u8] {
+    b"    const u = (left + right) / 2, v = (low + high) / 2;
     this.offset = [ca * u - sa * se * v, sa * u + ca * se * v, ce * v];
     return Math.min(width / Math.max(right - left, 2000), height / Math.max(high - low, 2000));
   }
@@ -1255,12 +1263,7 @@ pub(crate) fn script_28() -> &'static [u8] {
     const rows = [[ca * u, sa * u, 0], [-sa * se * v, ca * se * v, ce * v], [-sa * ce * d, ca * ce * d, -se * d]];
     const m = new Float32Array(16);
     rows.forEach((row, r) => {
-"
-}
-
-/// Part 29 of the script.
-pub(crate) fn script_29() -> &'static [u8] {
-    b"      for (let k = 0; k < 3; k++) m[4 * k + r] = row[k];
+      for (let k = 0; k < 3; k++) m[4 * k + r] = row[k];
       m[12 + r] = -(row[0] * c[0] + row[1] * c[1] + row[2] * c[2]);
     });
     m[15] = 1;
@@ -1287,7 +1290,12 @@ pub(crate) fn script_29() -> &'static [u8] {
     gl.enable(gl.BLEND);
     gl.blendFunc(gl.ONE, gl.ONE_MINUS_SRC_ALPHA);
     const begin = (program) => { gl.useProgram(program); gl.uniformMatrix4fv(gl.getUniformLocation(program, \"look\"), false, look); };
-    const attribute = (program, name, size, stride, offset) => {
+"
+}
+
+/// Part 30 of the script.
+pub(crate) fn script_30() -> &'static [u8] {
+    b"    const attribute = (program, name, size, stride, offset) => {
       const at = gl.getAttribLocation(program, name);
       gl.enableVertexAttribArray(at);
       gl.vertexAttribPointer(at, size, gl.FLOAT, false, 4 * stride, 4 * offset);
@@ -1300,12 +1308,7 @@ pub(crate) fn script_29() -> &'static [u8] {
       gl.uniform1f(gl.getUniformLocation(this.lineProgram, \"lift\"), lift);
       gl.drawArrays(gl.LINES, 0, what.count);
     };
-"
-}
-
-/// Part 30 of the script.
-pub(crate) fn script_30() -> &'static [u8] {
-    b"    lines(this.ground, \"grid\", 1, 0);
+    lines(this.ground, \"grid\", 1, 0);
     begin(this.blockProgram);
     gl.bindBuffer(gl.ARRAY_BUFFER, this.faces.buffer);
     attribute(this.blockProgram, \"at\", 3, 6, 0);
@@ -1327,7 +1330,12 @@ pub(crate) fn script_30() -> &'static [u8] {
     attribute(way, \"piece\", 2, 10, 8);
     gl.uniform2f(gl.getUniformLocation(way, \"size\"), this.width / 2, this.height / 2);
     gl.uniform1f(gl.getUniformLocation(way, \"now\"), k);
-    gl.uniform1f(gl.getUniformLocation(way, \"since\"), strongFrom(this.run, k) ? this.run.pieceStep[strongFrom(this.run, k)] : -1);
+"
+}
+
+/// Part 31 of the script.
+pub(crate) fn script_31() -> &'static [u8] {
+    b"    gl.uniform1f(gl.getUniformLocation(way, \"since\"), strongFrom(this.run, k) ? this.run.pieceStep[strongFrom(this.run, k)] : -1);
     gl.uniform1f(gl.getUniformLocation(way, \"pale\"), isDense(this.run) ? 0.08 : 0.22);
     gl.uniform1f(gl.getUniformLocation(way, \"wide\"), this.run.kinds.length > 2000 ? 0.6 : 1);
     gl.uniform4fv(gl.getUniformLocation(way, \"colours\"), [...wayKinds].flatMap((kind) => [...rgb(kind), 1]));
@@ -1335,12 +1343,7 @@ pub(crate) fn script_30() -> &'static [u8] {
     const pieces = this.run.kinds.length, at = this.run.pieceFrom[k], from = this.isSlow ? Math.max(0, at - 2500) : 0, to = this.isSlow ? Math.min(pieces, at + 2500) : pieces;
     gl.depthMask(false);
     gl.uniform1f(gl.getUniformLocation(way, \"faint\"), 1);
-"
-}
-
-/// Part 31 of the script.
-pub(crate) fn script_31() -> &'static [u8] {
-    b"    gl.drawArrays(gl.TRIANGLES, 6 * from, 6 * (to - from));
+    gl.drawArrays(gl.TRIANGLES, 6 * from, 6 * (to - from));
     if (pieces <= 5000) {
       gl.disable(gl.DEPTH_TEST);
       gl.uniform1f(gl.getUniformLocation(way, \"faint\"), 0.22);
@@ -1366,7 +1369,12 @@ pub(crate) fn script_31() -> &'static [u8] {
       const [x, y] = this.place(run.touches[i].at);
       g.fillStyle = colours.s; g.strokeStyle = colours.paper; g.lineWidth = 1;
       g.beginPath(); g.arc(x, y, dotSize(run), 0, 7); g.fill();
-      if (dotSize(run) > 2) g.stroke();
+"
+}
+
+/// Part 32 of the script.
+pub(crate) fn script_32() -> &'static [u8] {
+    b"      if (dotSize(run) > 2) g.stroke();
     }
     const [hx, hy] = this.place(run.home);
     g.strokeStyle = colours.muted; g.lineWidth = 1.5;
@@ -1377,12 +1385,7 @@ pub(crate) fn script_31() -> &'static [u8] {
     g.beginPath(); g.ellipse(fx, fy, 5, 5 * Math.max(0.15, Math.sin(this.elevation)), 0, 0, 7); g.stroke();
     g.strokeStyle = colours.probe; g.fillStyle = colours.probe; g.lineWidth = 2;
     const tip = tipAt(run, k);
-"
-}
-
-/// Part 32 of the script.
-pub(crate) fn script_32() -> &'static [u8] {
-    b"    if (tip * this.scale() > 4) this.wire(g, probe.map((p) => p - tip), probe.map((p) => p + tip), 1.5); else { g.beginPath(); g.arc(x, y, 7, 0, 7); g.stroke(); }
+    if (tip * this.scale() > 4) this.wire(g, probe.map((p) => p - tip), probe.map((p) => p + tip), 1.5); else { g.beginPath(); g.arc(x, y, 7, 0, 7); g.stroke(); }
     g.beginPath(); g.arc(x, y, 2, 0, 7); g.fill();
     if (run.contact && run.contact.step === k) {
       const [cx, cy] = this.place(run.contact.at);
@@ -1401,7 +1404,12 @@ pub(crate) fn script_32() -> &'static [u8] {
     labels.keep(x, y, 7);
     if (run.contact && run.contact.step === k) labels.put(blockText(run, run.contact.block), ...this.place(run.contact.at), colours.danger, true, Math.max(10, 1.4 * tip * this.scale() + 5));
     labels.put(\"home\", hx, hy, colours.muted);
-    if (run.touches.length <= 200) for (let i = touched - 1; i >= 0; i--) labels.put(run.touches[i].name, ...this.place(run.touches[i].at), colours.ink);
+"
+}
+
+/// Part 33 of the script.
+pub(crate) fn script_33() -> &'static [u8] {
+    b"    if (run.touches.length <= 200) for (let i = touched - 1; i >= 0; i--) labels.put(run.touches[i].name, ...this.place(run.touches[i].at), colours.ink);
     const ox = 26, oy = this.height - 30;
     g.font = \"600 10px system-ui, sans-serif\";
     [\"X\", \"Y\", \"Z\"].forEach((name, i) => {
@@ -1414,12 +1422,7 @@ pub(crate) fn script_32() -> &'static [u8] {
   }
 
   // The edges of a body at a place.
-"
-}
-
-/// Part 33 of the script.
-pub(crate) fn script_33() -> &'static [u8] {
-    b"  wires(g, body, at, width) {
+  wires(g, body, at, width) {
     for (const { low, high } of body.parts) this.wire(g, low.map((x, i) => at[i] + x), high.map((x, i) => at[i] + x), body.parts.length > 3 ? width / 2 : width);
   }
 
@@ -1442,7 +1445,12 @@ pub(crate) fn script_33() -> &'static [u8] {
 
   // The edges of a box between two corners.
   wire(g, low, high, width) {
-    const p = [0, 1, 2, 3, 4, 5, 6, 7].map((n) => this.place([n & 1 ? high[0] : low[0], n & 2 ? high[1] : low[1], n & 4 ? high[2] : low[2]]));
+"
+}
+
+/// Part 34 of the script.
+pub(crate) fn script_34() -> &'static [u8] {
+    b"    const p = [0, 1, 2, 3, 4, 5, 6, 7].map((n) => this.place([n & 1 ? high[0] : low[0], n & 2 ? high[1] : low[1], n & 4 ? high[2] : low[2]]));
     g.beginPath();
     for (const [a, b] of [[0, 1], [0, 2], [0, 4], [1, 3], [1, 5], [2, 3], [2, 6], [3, 7], [4, 5], [4, 6], [5, 7], [6, 7]]) { g.moveTo(...p[a]); g.lineTo(...p[b]); }
     g.lineWidth = width;
@@ -1460,12 +1468,7 @@ pub(crate) fn script_33() -> &'static [u8] {
   }
 
   turn(x, y) {
-"
-}
-
-/// Part 34 of the script.
-pub(crate) fn script_34() -> &'static [u8] {
-    b"    this.azimuth -= x;
+    this.azimuth -= x;
     this.elevation = Math.max(0.02, Math.min(Math.PI / 2, this.elevation + y));
   }
 
@@ -1499,7 +1502,12 @@ class Profile {
     if (this.drawnFor === wanted) return;
     this.drawnFor = wanted;
     this.layers.forEach((layer, i) => {
-      layer.width = this.canvas.width = Math.round(this.width * ratio);
+"
+}
+
+/// Part 35 of the script.
+pub(crate) fn script_35() -> &'static [u8] {
+    b"      layer.width = this.canvas.width = Math.round(this.width * ratio);
       layer.height = this.canvas.height = Math.round(this.height * ratio);
       const g = layer.getContext(\"2d\");
       g.scale(ratio, ratio);
@@ -1518,12 +1526,7 @@ class Profile {
     for (let k = 0; k <= n; k++) {
       const z = run.position[3 * k + 2];
       if (z < low) low = z;
-"
-}
-
-/// Part 35 of the script.
-pub(crate) fn script_35() -> &'static [u8] {
-    b"      if (z > high) high = z;
+      if (z > high) high = z;
     }
     const y = (z) => h - 7 - (high > low ? ((z - low) / (high - low)) * (h - 16) : (h - 16) / 2), step = Math.max(1, n / (2 * inner));
     g.beginPath();
@@ -1557,7 +1560,12 @@ pub(crate) fn script_35() -> &'static [u8] {
       }
     }
     g.fillStyle = colours.ink;
-    for (const k of run.output.steps) g.fillRect(this.x(k) - 0.5, h - 4, 1, 4);
+"
+}
+
+/// Part 36 of the script.
+pub(crate) fn script_36() -> &'static [u8] {
+    b"    for (const k of run.output.steps) g.fillRect(this.x(k) - 0.5, h - 4, 1, 4);
     g.strokeStyle = g.fillStyle = colours.danger;
     for (const box of run.boxes) for (const contact of box.contacts) if (contact.step > 0) g.fillRect(this.x(contact.step) - 2, 0, 4, 5);
     if (stopLine) {
@@ -1573,12 +1581,7 @@ pub(crate) fn script_35() -> &'static [u8] {
     this.drawFixed(colours, ratio);
     const g = this.canvas.getContext(\"2d\"), { width: w, height: h } = this.canvas, to = Math.round(this.x(k) * ratio);
     g.setTransform(1, 0, 0, 1, 0, 0);
-"
-}
-
-/// Part 36 of the script.
-pub(crate) fn script_36() -> &'static [u8] {
-    b"    g.clearRect(0, 0, w, h);
+    g.clearRect(0, 0, w, h);
     g.drawImage(this.layers[0], 0, 0);
     if (to > 0) g.drawImage(this.layers[1], 0, 0, to, h, 0, 0, to, h);
     g.drawImage(this.marks, 0, 0);
@@ -1603,7 +1606,12 @@ class Listing {
     this.untried = new Map([...(run.untried ? run.untried.lines : [])].map(([line, all]) => [line, all.map((it) => it.text + (it.count > 1 ? `, ${it.count} times` : \"\")).join(\"; \")]));
     for (const line of run.adapted ? run.adapted.lines : []) this.untried.set(line, \"left out by vcm adapt: not tried\");
     this.touching = new Set(run.touches.map((it) => rowAt(run, it.step)));
-    // lines in which a box of the probe meets a block, each with what it meets
+"
+}
+
+/// Part 37 of the script.
+pub(crate) fn script_37() -> &'static [u8] {
+    b"    // lines in which a box of the probe meets a block, each with what it meets
     this.meeting = new Map(run.boxes.flatMap((own) => own.contacts.filter((it) => it.step > 0).map((it) => [rowAt(run, it.step), metText(run, own, it)])).reverse());
     this.rows = new Map();
     this.pointed = 0;
@@ -1616,12 +1624,7 @@ class Listing {
       piece.style.setProperty(\"--longest\", Math.min(longest, 2000) + 30);
       piece.dataset.from = from;
       this.pieces.push(piece);
-"
-}
-
-/// Part 37 of the script.
-pub(crate) fn script_37() -> &'static [u8] {
-    b"      all.append(piece);
+      all.append(piece);
       this.plain(piece);
     }
     box.append(all);
@@ -1653,7 +1656,12 @@ pub(crate) fn script_37() -> &'static [u8] {
   full(piece) {
     if (piece.dataset.is === \"full\") return;
     const [from, to] = this.linesOf(piece), rows = [];
-    for (let i = from; i < to; i++) {
+"
+}
+
+/// Part 38 of the script.
+pub(crate) fn script_38() -> &'static [u8] {
+    b"    for (let i = from; i < to; i++) {
       const row = this.row(i + 1);
       this.rows.set(i + 1, row);
       rows.push(row);
@@ -1667,12 +1675,7 @@ pub(crate) fn script_37() -> &'static [u8] {
     if (n === this.pointed) row.classList.add(\"pointed\");
     const [text, kind, title] = isStop ? [\"\\u2715\", \" stop\", n === this.stopLine ? run.stop.text : this.meeting.get(n)] : this.untried.has(n) ? [\"?\", \" untried\", this.untried.get(n)] : this.touching.has(n) ? [\"\\u25cf\", \" touch\", \"measures\"] : this.noticed.has(n) ? [\"!\", \" notice\", this.noticed.get(n) + \" has no effect\"] : [\"\", \"\", \"\"];
     const sign = element(\"span\", text, \"sign\" + kind);
-"
-}
-
-/// Part 38 of the script.
-pub(crate) fn script_38() -> &'static [u8] {
-    b"    if (title) sign.title = title;
+    if (title) sign.title = title;
     if (times) row.classList.add(\"ran\");
     else if (this.stated.has(n)) {
       row.classList.add(\"idle\");
@@ -1705,7 +1708,12 @@ pub(crate) fn script_38() -> &'static [u8] {
   }
   // Marks the line of a step, and that of the next one.
   show(k) {
-    const { run } = this, next = nextAt(run, k), line = k ? rowAt(run, k) : 0, after = next ? rowOf(run, next.statement) : 0;
+"
+}
+
+/// Part 39 of the script.
+pub(crate) fn script_39() -> &'static [u8] {
+    b"    const { run } = this, next = nextAt(run, k), line = k ? rowAt(run, k) : 0, after = next ? rowOf(run, next.statement) : 0;
     this.unpoint();
     const before = new Set(this.marked.map((it) => it.parentElement));
     for (const row of this.marked) {
@@ -1724,12 +1732,7 @@ pub(crate) fn script_38() -> &'static [u8] {
       now.classList.add(\"now\");
       if ((run.stop && k === run.stop.step && this.stopLine) || met.length) now.classList.add(\"bad\");
       now.setAttribute(\"aria-current\", \"step\");
-"
-}
-
-/// Part 39 of the script.
-pub(crate) fn script_39() -> &'static [u8] {
-    b"      now.lastChild.textContent = met.map(({ box, contact }) => metText(run, box, contact) + \", then \").join(\"\") + doneText(run, k).replace(/^stop (.*?)( at \\d+ line \\d+)?$/, \"$1\").replace(/ permille \\d+$/, \"\");
+      now.lastChild.textContent = met.map(({ box, contact }) => metText(run, box, contact) + \", then \").join(\"\") + doneText(run, k).replace(/^stop (.*?)( at \\d+ line \\d+)?$/, \"$1\").replace(/ permille \\d+$/, \"\");
       this.marked.push(now);
     }
     for (const piece of before) if (piece && !this.inView.has(piece)) this.plain(piece);
@@ -1758,7 +1761,12 @@ pub(crate) fn script_39() -> &'static [u8] {
   }
   // On paper stand all lines.
   forPaper(is) {
-    for (const it of this.pieces) if (is) this.full(it); else if (!this.inView.has(it)) this.plain(it);
+"
+}
+
+/// Part 40 of the script.
+pub(crate) fn script_40() -> &'static [u8] {
+    b"    for (const it of this.pieces) if (is) this.full(it); else if (!this.inView.has(it)) this.plain(it);
   }
 }
 
@@ -1772,12 +1780,7 @@ function readWhy(run, text) {
   for (const row of rows.slice(1)) {
     let it;
     if ((it = /^line (\\d+): (.*)$/.exec(row))) why.lines.push({ line: Number(it[1]), text: \"\", code: it[2] });
-"
-}
-
-/// Part 40 of the script.
-pub(crate) fn script_40() -> &'static [u8] {
-    b"    else if ((it = /^in (M\\(\\w+\\)) from line (\\d+): (.*)$/.exec(row))) why.lines.push({ line: Number(it[2]), text: `in ${it[1]} by `, code: it[3], call: it[1] });
+    else if ((it = /^in (M\\(\\w+\\)) from line (\\d+): (.*)$/.exec(row))) why.lines.push({ line: Number(it[2]), text: `in ${it[1]} by `, code: it[3], call: it[1] });
     else if ((it = /^round (\\d+) of DO line (\\d+), (.*)$/.exec(row))) why.lines.push({ line: Number(it[2]), text: `round ${it[1]} of DO, `, code: it[3] });
     else if (row.startsWith(\"free \")) why.free = row.slice(5).replace(/\\b[xyz](?= -?\\d)/g, (c) => c.toUpperCase());
     // the way, the contact and the block's name stand in the table of places below
@@ -1800,7 +1803,12 @@ class WhyCard {
       return item;
     }));
     $(\"why-free\").hidden = free === \"\";
-    $(\"why-free\").textContent = \"Free \" + free.replace(\"it \", block || \"it \");
+"
+}
+
+/// Part 41 of the script.
+pub(crate) fn script_41() -> &'static [u8] {
+    b"    $(\"why-free\").textContent = \"Free \" + free.replace(\"it \", block || \"it \");
     $(\"why-others\").replaceChildren(...others.map((it) => this.linked(it)));
   }
   link(line) {
@@ -1820,12 +1828,7 @@ class WhyCard {
     if (this.run.why === null || !this.run.stop) return;
     const { run } = this, isHere = k === run.stop.step;
     setClass(this.card, isHere ? \"why\" : \"why away\");
-"
-}
-
-/// Part 41 of the script.
-pub(crate) fn script_41() -> &'static [u8] {
-    b"    setText($(\"why-title\"), isHere ? \"Why it stops here\" : \"Why it stops\");
+    setText($(\"why-title\"), isHere ? \"Why it stops here\" : \"Why it stops\");
     $(\"why-to\").hidden = isHere;
     $(\"why-to\").dataset.step = run.stop.step;
     setText($(\"why-to\"), \"at step \" + (run.stop.step + run.from).toLocaleString(\"en\"));
@@ -1845,7 +1848,12 @@ class Panel {
     this.variables = new Rows($(\"variables-list\"), $(\"variables\"), \"tbody\", 24, (i) => this.variableRow(this.names[i]), (row, i, k) => this.updateVariable(row, this.names[i], k));
     this.points = new Rows($(\"points-list\"), $(\"points\"), \"tbody\", 38, (i) => this.pointRow(run.touches[i]), (row, i, k) => setClass(row, run.touches[i].step === k ? \"changed\" : \"\"));
     this.output = new Rows($(\"output\"), $(\"output\"), \"ol\", 38, (i) => this.outputRow(i), (row, i, k) => setClass(row, run.output.steps[i] === k ? \"changed\" : \"\"));
-    this.settings = [...run.settings].map(([name, it]) => {
+"
+}
+
+/// Part 42 of the script.
+pub(crate) fn script_42() -> &'static [u8] {
+    b"    this.settings = [...run.settings].map(([name, it]) => {
       const value = element(\"dd\", \"\", \"mono\");
       $(\"settings\").append(element(\"dt\", name), value);
       return { it, value };
@@ -1854,12 +1862,7 @@ class Panel {
     this.boxes = new Rows($(\"boxes-list\"), $(\"boxes\"), \"tbody\", 26, (i) => this.boxRow(this.told[i]), (row, i, k) => setClass(row, this.told[i].contact && this.told[i].contact.step === k && k ? \"changed\" : \"\"));
     for (const [id, has] of [[\"variables-section\", run.variables.size], [\"points-section\", run.touches.length], [\"boxes-section\", this.told.length], [\"output-section\", run.output.steps.length], [\"notices-section\", run.notices.length]]) $(id).hidden = has === 0;
     $(\"variables-filter\").hidden = run.variables.size <= 20;
-"
-}
-
-/// Part 42 of the script.
-pub(crate) fn script_42() -> &'static [u8] {
-    b"    for (const it of run.notices.slice(0, 200)) $(\"notices\").append(element(\"li\", `line ${it.line}: ${it.word} has no effect`));
+    for (const it of run.notices.slice(0, 200)) $(\"notices\").append(element(\"li\", `line ${it.line}: ${it.word} has no effect`));
   }
   jump(step, text) {
     const it = element(\"button\", text || String(step + this.run.from), \"jump\");
@@ -1887,16 +1890,16 @@ pub(crate) fn script_42() -> &'static [u8] {
     const met = contactsIn(run, k).map(({ box, contact }) => `${metText(run, box, contact)} at ${contact.at.map(millimetres).join(\" \")}, in its ${contact.kind.toLowerCase()}`);
     for (const it of run.beyond) if (it.step === k && k) met.push(`the pivot goes beyond its limits, at ${it.at.map(millimetres).join(\" \")}`);
     const untried = run.untried && run.untried.steps.has(k);
-    const ended = fails ? this.ending.text + \". The probe stays where it was.\" : stops ? \"the run has come to its end\" + (isPartly(run) ? \"; not all of it was tried\" : run.adapted ? \"; not all of the producer's text stands in it\" : \"\") : doneText(run, k);
-    setText($(\"step-title\"), k === 0 ? (run.from ? \"Behind step \" + run.from : \"Start\") : \"Step \" + (k + run.from) + \" \\u00b7 line \" + run.line[k] + (wordAt(run, k) ? \" \\u00b7 \" + wordAt(run, k) : \"\"));
-    setText($(\"step-done\"), [...met, ...(met.length && ended ? [\"then \" + ended] : [ended])].join(\"; \"));
-    setText($(\"step-line\"), fails ? run.done[k] : \"\");
 "
 }
 
 /// Part 43 of the script.
 pub(crate) fn script_43() -> &'static [u8] {
-    b"    setClass($(\"step-done\"), \"done\" + (fails || met.length ? \" bad\" : untried || (stops && (isPartly(run) || run.adapted)) ? \" warn\" : stops && !run.firstMet ? \" ok\" : \"\"));
+    b"    const ended = fails ? this.ending.text + \". The probe stays where it was.\" : stops ? \"the run has come to its end\" + (isPartly(run) ? \"; not all of it was tried\" : run.adapted ? \"; not all of the producer's text stands in it\" : \"\") : doneText(run, k);
+    setText($(\"step-title\"), k === 0 ? (run.from ? \"Behind step \" + run.from : \"Start\") : \"Step \" + (k + run.from) + \" \\u00b7 line \" + run.line[k] + (wordAt(run, k) ? \" \\u00b7 \" + wordAt(run, k) : \"\"));
+    setText($(\"step-done\"), [...met, ...(met.length && ended ? [\"then \" + ended] : [ended])].join(\"; \"));
+    setText($(\"step-line\"), fails ? run.done[k] : \"\");
+    setClass($(\"step-done\"), \"done\" + (fails || met.length ? \" bad\" : untried || (stops && (isPartly(run) || run.adapted)) ? \" warn\" : stops && !run.firstMet ? \" ok\" : \"\"));
   }
   showProbe(k) {
     const { run } = this, at = positionAt(run, k), frame = run.frame.at(k), next = nextAt(run, k), places = [[\"Machine\", at]], entries = [], add = (name, value) => entries.push(element(\"dt\", name), typeof value === \"string\" ? element(\"dd\", value) : value);
@@ -1911,7 +1914,12 @@ pub(crate) fn script_43() -> &'static [u8] {
     if (run.probes) add(\"Probe\", probe ? `${probe.name}, number ${probe.number}, ${tipText(run, k)}` : \"none is on yet\");
     if (turn) places.push([\"From\", turn.from], [\"Pivot\", turn.pivot], [\"To\", turn.to]);
     if (run.contact !== null && run.contact.step === k) places.push([\"Contact\", run.contact.at, \"bad\"]);
-    for (const { box, contact } of contactsIn(run, k)) places.push([box.isSwing ? \"Pivot\" : box.short, contact.at, \"bad\"]);
+"
+}
+
+/// Part 44 of the script.
+pub(crate) fn script_44() -> &'static [u8] {
+    b"    for (const { box, contact } of contactsIn(run, k)) places.push([box.isSwing ? \"Pivot\" : box.short, contact.at, \"bad\"]);
     for (let i = k ? run.pieceFrom[k] : 0; i < (k ? run.pieceFrom[k + 1] : 0); i++) if (run.kinds[i] === \"x\") places.push([\"Aim\", run.aims.get(i) || [...run.ends.subarray(6 * i + 3, 6 * i + 6)]]);
     for (const number of metIn(run, k)) {
       const block = run.blocks[number - 1];
@@ -1919,12 +1927,7 @@ pub(crate) fn script_43() -> &'static [u8] {
       places.push([\"Block \" + number, block.slice(0, 3)], [\"\", block.slice(3)]);
     }
     if (run.untried) add(\"Known\", this.knownValue(run.untried.known.at(k)));
-"
-}
-
-/// Part 44 of the script.
-pub(crate) fn script_44() -> &'static [u8] {
-    b"    add(\"Next\", next ? \"line \" + next.line + \" \" + (run.code[next.statement] ? run.code[next.statement].word : \"\") : \"nothing: the run has stopped\");
+    add(\"Next\", next ? \"line \" + next.line + \" \" + (run.code[next.statement] ? run.code[next.statement].word : \"\") : \"nothing: the run has stopped\");
     $(\"probe\").replaceChildren(...entries);
     this.showPlaces(places);
   }
@@ -1950,7 +1953,12 @@ pub(crate) fn script_44() -> &'static [u8] {
       return row;
     });
     $(\"places\").tBodies[0].replaceChildren(...rows);
-    setClass($(\"places\"), longest > 12 ? \"tall\" : longest > 8 || isLong ? \"wide\" : \"\");
+"
+}
+
+/// Part 45 of the script.
+pub(crate) fn script_45() -> &'static [u8] {
+    b"    setClass($(\"places\"), longest > 12 ? \"tall\" : longest > 8 || isLong ? \"wide\" : \"\");
   }
   variableRow(name) {
     const row = element(\"tr\"), value = cell(\"\", \"n mono\"), set = cell(\"\", \"n\");
@@ -1968,12 +1976,7 @@ pub(crate) fn script_44() -> &'static [u8] {
     this.showVariables(k);
   }
   updateVariable(row, name, k) {
-"
-}
-
-/// Part 45 of the script.
-pub(crate) fn script_45() -> &'static [u8] {
-    b"    const { changes } = this.run.variables.get(name), set = changes.setAt(k);
+    const { changes } = this.run.variables.get(name), set = changes.setAt(k);
     setText(row.children[1], changes.at(k));
     setClass(row, set === k && k ? \"changed\" : \"\");
     if (row.dataset.set === String(set)) return;
@@ -1993,19 +1996,19 @@ pub(crate) fn script_45() -> &'static [u8] {
     this.points.show(touched, k, true);
     setText($(\"points-count\"), `${touched.toLocaleString(\"en\")} of ${run.touches.length.toLocaleString(\"en\")}`);
   }
-  // What is told of the bodies of the probe, or of each of several probes and of what turns: contacts, and how much room is left. A row has a name, a text and its contact, or is a head.
+"
+}
+
+/// Part 46 of the script.
+pub(crate) fn script_46() -> &'static [u8] {
+    b"  // What is told of the bodies of the probe, or of each of several probes and of what turns: contacts, and how much room is left. A row has a name, a text and its contact, or is a head.
   boxRows() {
     const { run } = this;
     if (!run.probes) return run.boxes.flatMap((it) => this.bodyRows(it));
     const rows = run.probes.all.flatMap((probe) => [{ head: `${probe.name} \\u00b7 ${probe.ways ? countText(probe.ways, \"way\", \"ways\") : \"not used\"}` }, ...(probe.ways ? run.boxes.filter((it) => it.probe === probe && !it.isSwing).flatMap((it) => this.bodyRows(it)) : [])]);
     const swing = run.boxes.filter((it) => it.isSwing && (it.contacts.length || it.room !== null));
     if (swing.length) rows.push({ head: \"What turns\" }, ...swing.flatMap((it) => this.bodyRows(it)));
-"
-}
-
-/// Part 46 of the script.
-pub(crate) fn script_46() -> &'static [u8] {
-    b"    if (run.beyond.length) rows.push({ head: \"The pivot, beyond its limits\" }, ...run.beyond.map((it) => ({ name: \"\", text: `${it.kind} at ${it.at.map(millimetres).join(\" \")}`, contact: it })));
+    if (run.beyond.length) rows.push({ head: \"The pivot, beyond its limits\" }, ...run.beyond.map((it) => ({ name: \"\", text: `${it.kind} at ${it.at.map(millimetres).join(\" \")}`, contact: it })));
     return rows;
   }
   bodyRows({ short, contacts, room }) {
@@ -2027,7 +2030,12 @@ pub(crate) fn script_46() -> &'static [u8] {
   }
   outputRow(i) {
     const { run } = this, item = element(\"li\"), text = this.jump(run.output.steps[i], \" \");
-    text.replaceChildren(...run.output.values[i].split(/(?<=,)/).flatMap((it) => [it, document.createElement(\"wbr\")]));
+"
+}
+
+/// Part 47 of the script.
+pub(crate) fn script_47() -> &'static [u8] {
+    b"    text.replaceChildren(...run.output.values[i].split(/(?<=,)/).flatMap((it) => [it, document.createElement(\"wbr\")]));
     item.append(element(\"span\", String(i + 1), \"quietly\"), text);
     return item;
   }
@@ -2048,12 +2056,7 @@ pub(crate) fn script_46() -> &'static [u8] {
 class Stage {
   // `whenStepped` is called with the step of a piece that is clicked.
   constructor(run, whenStepped) {
-"
-}
-
-/// Part 47 of the script.
-pub(crate) fn script_47() -> &'static [u8] {
-    b"    this.run = run;
+    this.run = run;
     this.whenStepped = whenStepped;
     this.camera = { centre: [0, 0, 0], scale: 0.001, solid: 1 };
     this.colours = readColours();
@@ -2076,7 +2079,12 @@ pub(crate) fn script_47() -> &'static [u8] {
     this.makeLegend();
     for (const sheet of [...this.flat, ...(this.solid ? [this.solid] : [])]) this.listenTo(sheet);
     for (const it of document.getElementsByName(\"view\")) it.onchange = () => this.setView(it.value);
-    for (const it of document.getElementsByName(\"fit\")) it.onchange = () => this.fit(it.value);
+"
+}
+
+/// Part 48 of the script.
+pub(crate) fn script_48() -> &'static [u8] {
+    b"    for (const it of document.getElementsByName(\"fit\")) it.onchange = () => this.fit(it.value);
     for (const it of document.querySelectorAll(\"[data-turn]\")) it.onclick = () => {
       const [x, y] = { left: [-0.2, 0], right: [0.2, 0], up: [0, 0.15], down: [0, -0.15] }[it.dataset.turn];
       if (this.solid) this.solid.turn(x, y);
@@ -2091,12 +2099,7 @@ pub(crate) fn script_47() -> &'static [u8] {
   }
   makeLegend() {
     const { run } = this, legend = $(\"legend\"), kinds = new Set(run.kinds);
-"
-}
-
-/// Part 48 of the script.
-pub(crate) fn script_48() -> &'static [u8] {
-    b"    for (const kind of \"measrx\") if (kinds.has(kind)) legend.append(element(\"span\", kindNames[kind], \"key \" + kind), \" \");
+    for (const kind of \"measrx\") if (kinds.has(kind)) legend.append(element(\"span\", kindNames[kind], \"key \" + kind), \" \");
     if (run.turns.size) legend.append(element(\"span\", \"turn of the head\", \"key turn\"), \" \");
     if (run.touches.length) legend.append(element(\"span\", \"touched\", \"key dot\"), \" \");
     legend.append(element(\"span\", \"probe\", \"key ring\"));
@@ -2126,7 +2129,12 @@ pub(crate) fn script_48() -> &'static [u8] {
     camera.centre = box.low.map((x, k) => (x + box.high[k]) / 2);
     const size = box.high.map((x, k) => Math.max(x - box.low[k], 2000));
     let scale = Infinity;
-    for (const sheet of this.flat) {
+"
+}
+
+/// Part 49 of the script.
+pub(crate) fn script_49() -> &'static [u8] {
+    b"    for (const sheet of this.flat) {
       const w = sheet.canvas.clientWidth, h = sheet.canvas.clientHeight;
       if (!w || !h) continue;
       scale = Math.min(scale, (0.8 * w) / size[sheet.sheet.right], (0.74 * h) / size[sheet.sheet.up]);
@@ -2142,12 +2150,7 @@ pub(crate) fn script_48() -> &'static [u8] {
     this.draw();
   }
   zoom(by, sheet, x, y) {
-"
-}
-
-/// Part 49 of the script.
-pub(crate) fn script_49() -> &'static [u8] {
-    b"    const most = 0.5, least = 1e-7, { camera } = this, scale = Math.max(least, Math.min(most, camera.scale * by));
+    const most = 0.5, least = 1e-7, { camera } = this, scale = Math.max(least, Math.min(most, camera.scale * by));
     if (sheet && sheet.sheet) {
       const { right, up } = sheet.sheet, grown = 1 / camera.scale - 1 / scale;
       camera.centre[right] += (x - sheet.width / 2) * grown;
@@ -2186,7 +2189,12 @@ pub(crate) fn script_49() -> &'static [u8] {
     if (this.solid) this.drawSolid(ratio);
     this.profile.draw(this.colours, this.step, ratio);
   }
-  // Where a frame in space takes long, it is drawn once nothing has changed for a while.
+"
+}
+
+/// Part 50 of the script.
+pub(crate) fn script_50() -> &'static [u8] {
+    b"  // Where a frame in space takes long, it is drawn once nothing has changed for a while.
   drawSolid(ratio) {
     clearTimeout(this.later);
     if (this.isOnPaper) return this.solid.drawAsPicture(this.colours, this.step, this.probe, ratio);
@@ -2208,12 +2216,7 @@ pub(crate) fn script_49() -> &'static [u8] {
 
   tipOf(found) {
     const { run } = this, text = (from) => [from, from + 1, from + 2].map((i) => millimetres(run.ends[i])).join(\" \");
-"
-}
-
-/// Part 50 of the script.
-pub(crate) fn script_50() -> &'static [u8] {
-    b"    if (found.piece !== undefined) {
+    if (found.piece !== undefined) {
       const i = found.piece, k = run.pieceStep[i];
       return `step ${k + run.from}, line ${run.line[k]}: ${kindNames[run.kinds[i]]} ${text(6 * i)} to ${text(6 * i + 3)}`;
     }
@@ -2235,7 +2238,12 @@ pub(crate) fn script_50() -> &'static [u8] {
       this.camera.centre[sheet.sheet.right] -= dx / this.camera.scale;
       this.camera.centre[sheet.sheet.up] += dy / this.camera.scale;
       this.loose();
-    } else this.solid.turn(-dx * 0.01, dy * 0.008);
+"
+}
+
+/// Part 51 of the script.
+pub(crate) fn script_51() -> &'static [u8] {
+    b"    } else this.solid.turn(-dx * 0.01, dy * 0.008);
     this.draw();
   }
   listenTo(sheet) {
@@ -2254,12 +2262,7 @@ pub(crate) fn script_50() -> &'static [u8] {
       travelled += Math.abs(dx) + Math.abs(dy);
       pointers.set(event.pointerId, [event.clientX, event.clientY]);
       $(\"tip\").hidden = true;
-"
-}
-
-/// Part 51 of the script.
-pub(crate) fn script_51() -> &'static [u8] {
-    b"      if (pointers.size === 2) {
+      if (pointers.size === 2) {
         const [[a, b], [c, d]] = [...pointers.values()], long = Math.hypot(c - a, d - b);
         if (apart) this.zoom(long / apart, sheet, (a + c) / 2 - box.left, (b + d) / 2 - box.top);
         apart = long;
@@ -2283,7 +2286,12 @@ pub(crate) fn script_51() -> &'static [u8] {
   }
 }
 
-// The page: from step to step by keys, buttons, lines and playing. Texts of the run go into the page as text alone.
+"
+}
+
+/// Part 52 of the script.
+pub(crate) fn script_52() -> &'static [u8] {
+    b"// The page: from step to step by keys, buttons, lines and playing. Texts of the run go into the page as text alone.
 
 (() => {
   let run;
@@ -2302,12 +2310,7 @@ pub(crate) fn script_51() -> &'static [u8] {
 
   const calm = matchMedia(\"(prefers-reduced-motion: reduce)\"), narrow = matchMedia(\"(max-width: 900px)\");
   // in the page for browsers, whose editor has the program and whose head has the verdict, the page of a run has the steps alone
-"
-}
-
-/// Part 52 of the script.
-pub(crate) fn script_52() -> &'static [u8] {
-    b"  const isFramed = document.documentElement.classList.contains(\"framed\");
+  const isFramed = document.documentElement.classList.contains(\"framed\");
   let now = 0, playing = false, lettersWork = true;
 
   // ---- the head
@@ -2330,7 +2333,12 @@ pub(crate) fn script_52() -> &'static [u8] {
 
   // Shows a line of the text, here or, in the page for browsers, in its editor.
   function showLine(line) {
-    document.dispatchEvent(new CustomEvent(\"line\", { detail: line }));
+"
+}
+
+/// Part 53 of the script.
+pub(crate) fn script_53() -> &'static [u8] {
+    b"    document.dispatchEvent(new CustomEvent(\"line\", { detail: line }));
     if (!listing) return;
     if (document.body.dataset.panel === \"state\" && narrow.matches) document.querySelector('.tabs [data-panel=\"program\"]').click();
     listing.point(line);
@@ -2349,12 +2357,7 @@ pub(crate) fn script_52() -> &'static [u8] {
     now = k;
     const probe = shownAt(run, k), slider = $(\"slider\");
     slider.value = k;
-"
-}
-
-/// Part 53 of the script.
-pub(crate) fn script_53() -> &'static [u8] {
-    b"    slider.setAttribute(\"aria-valuetext\", k ? `step ${k + run.from}, line ${run.line[k]}, ${wordAt(run, k)} ${doneText(run, k)}` : \"the start\");
+    slider.setAttribute(\"aria-valuetext\", k ? `step ${k + run.from}, line ${run.line[k]}, ${wordAt(run, k)} ${doneText(run, k)}` : \"the start\");
     $(\"number\").value = k + run.from;
     document.documentElement.dataset.line = k ? rowAt(run, k) : 0;
     document.documentElement.dataset.step = k;
@@ -2370,7 +2373,12 @@ pub(crate) fn script_53() -> &'static [u8] {
   }
   function showHere(k, probe) {
     const count = (n) => n.toLocaleString(\"en\"), where = element(\"b\", k ? `Step ${count(k + run.from)} of ${count(run.length + run.from)}` : \"Start\", metIn(run, k).length ? \"bad\" : \"\");
-    $(\"here\").replaceChildren(where, ` \\u00b7 ${tipText(run, k)} \\u00b7 line ${k ? run.line[k] : \"\\u2013\"}`, element(\"br\"), element(\"span\", probe.map(millimetres).join(\"  \"), \"mono\"));
+"
+}
+
+/// Part 54 of the script.
+pub(crate) fn script_54() -> &'static [u8] {
+    b"    $(\"here\").replaceChildren(where, ` \\u00b7 ${tipText(run, k)} \\u00b7 line ${k ? run.line[k] : \"\\u2013\"}`, element(\"br\"), element(\"span\", probe.map(millimetres).join(\"  \"), \"mono\"));
   }
 
   $(\"slider\").max = run.length;
@@ -2390,12 +2398,7 @@ pub(crate) fn script_53() -> &'static [u8] {
       return;
     }
     if (now === run.length) goTo(0);
-"
-}
-
-/// Part 54 of the script.
-pub(crate) fn script_54() -> &'static [u8] {
-    b"    began = performance.now();
+    began = performance.now();
     requestAnimationFrame(frame);
   }
   const whole = Math.hypot(...stage.boxes.all.low.map((x, k) => stage.boxes.all.high[k] - x)) || 1;
@@ -2423,7 +2426,12 @@ pub(crate) fn script_54() -> &'static [u8] {
       play(false);
       return;
     }
-    if (!calm.matches) glide(wayOf(now + 1), Math.min(1, (t - began) / time(now + 1)));
+"
+}
+
+/// Part 55 of the script.
+pub(crate) fn script_55() -> &'static [u8] {
+    b"    if (!calm.matches) glide(wayOf(now + 1), Math.min(1, (t - began) / time(now + 1)));
     requestAnimationFrame(frame);
   }
   // The probe on its way, so far along pieces.
@@ -2451,12 +2459,7 @@ pub(crate) fn script_54() -> &'static [u8] {
   function toSame(by, line = rowAt(run, now)) {
     const list = run.counts.get(line);
     if (!list) return;
-"
-}
-
-/// Part 55 of the script.
-pub(crate) fn script_55() -> &'static [u8] {
-    b"    const k = by > 0 ? list.find((it) => it > now) : list.filter((it) => it < now).pop();
+    const k = by > 0 ? list.find((it) => it > now) : list.filter((it) => it < now).pop();
     stepTo(k !== undefined ? k : by > 0 ? list[0] : list[list.length - 1]);
   }
 
@@ -2477,7 +2480,12 @@ pub(crate) fn script_55() -> &'static [u8] {
   });
   $(\"profile\").addEventListener(\"pointerdown\", (event) => {
     const to = (e) => {
-      const box = $(\"profile\").getBoundingClientRect();
+"
+}
+
+/// Part 56 of the script.
+pub(crate) fn script_56() -> &'static [u8] {
+    b"      const box = $(\"profile\").getBoundingClientRect();
       stepTo(((e.clientX - box.left - 8) / (box.width - 16)) * run.length);
     };
     to(event);
@@ -2493,12 +2501,7 @@ pub(crate) fn script_55() -> &'static [u8] {
     if (isStateShown()) panel.show(now);
   };
   $(\"state-open\").onclick = () => document.querySelector(`.tabs [data-panel=\"${document.body.dataset.panel === \"state\" ? \"program\" : \"state\"}\"]`).click();
-"
-}
-
-/// Part 56 of the script.
-pub(crate) fn script_56() -> &'static [u8] {
-    b"  let stateWasShown = isStateShown();
+  let stateWasShown = isStateShown();
   new ResizeObserver(() => {
     if (isStateShown() && !stateWasShown) panel.show(now);
     stateWasShown = isStateShown();
@@ -2520,7 +2523,12 @@ pub(crate) fn script_56() -> &'static [u8] {
     if (tag === \"SELECT\" || (tag === \"INPUT\" && (on.type === \"number\" || on.type === \"search\"))) return;
     const radio = tag === \"INPUT\" && on.type === \"radio\";
     let used = true;
-    if (event.key === \"ArrowLeft\" && !radio) event.shiftKey ? toEvent(-1) : stepTo(now - 1);
+"
+}
+
+/// Part 57 of the script.
+pub(crate) fn script_57() -> &'static [u8] {
+    b"    if (event.key === \"ArrowLeft\" && !radio) event.shiftKey ? toEvent(-1) : stepTo(now - 1);
     else if (event.key === \"ArrowRight\" && !radio) event.shiftKey ? toEvent(1) : stepTo(now + 1);
     else if (event.key === \"Home\") stepTo(0);
     else if (event.key === \"End\") stepTo(run.length);
@@ -2543,12 +2551,7 @@ pub(crate) fn script_56() -> &'static [u8] {
     stage.forPaper(false);
   });
   if (narrow.matches || isFramed) stage.setView(stage.solid ? \"solid\" : \"top\");
-"
-}
-
-/// Part 57 of the script.
-pub(crate) fn script_57() -> &'static [u8] {
-    b"  const asked = () => /^#step=(\\d+)$/.exec(location.hash);
+  const asked = () => /^#step=(\\d+)$/.exec(location.hash);
   addEventListener(\"hashchange\", () => { if (asked()) stepTo(Number(asked()[1]) - run.from); });
   goTo(asked() ? Number(asked()[1]) - run.from : first, false);
   stage.fitNow();

@@ -4,4 +4,6 @@ pub mod RunViews
 pub mod PictureViews
 pub mod Read
 pub mod ReasonViews
+pub mod OneSource
+pub mod FirstViews
 pub mod OneView

@@ -8,12 +8,6 @@ use Rattle.vcm_spec.specs.declared.stop.StopPlace.{StopPlace}
 use Rattle.vcm_spec.specs.Workpiece.{Workpiece, IsValid}
 use Rattle.vcm_spec.specs.Setup.{Tables}
 use Rattle.vcm_spec.specs.World.{World}
-use Rattle.vcm_lines.specs.declared.logical.Logical.{Logical}
-use Rattle.vcm_lines.specs.Statements.{lines_of, kept_lines, grouped}
-use Rattle.vcm_lines.proofs.OneReading.{one_statements}
-use Rattle.vcm_forms.specs.declared.statement.Form.{Form}
-use Rattle.vcm_forms.specs.declared.statement.Statement.{Statement}
-use Rattle.vcm_calls.specs.Chains.{chain_of}
 use Rattle.vcm_code.specs.declared.code.Code.{Code}
 use Rattle.vcm_code.specs.Valid as codes
 use Rattle.vcm_machine.specs.declared.ran.End.TheVariants.{NoMemory}
@@ -24,21 +18,26 @@ use Rattle.vcm_state.specs.Held.{Held}
 use Rattle.vcm_run.specs.Printed.{result_text}
 use Rattle.vcm_margin.specs.Alike.{reached}
 use Rattle.vcm_margin.specs.Laws.{NoneOrEnd, ComesThrough}
+use Rattle.vcm_margin.specs.declared.difference.Margin.{Margin}
 use Rattle.vcm_margin.specs.Printed.{margin_text}
+use Rattle.vcm_margin.specs.Backtrace.{margin_backtrace}
 use Rattle.vcm_margin.proofs.OneMargin.{one_margin}
 use Rattle.vcm_way.specs.Following.{way_after}
 use Rattle.vcm_cause.specs.Behind.{Behind, behind_run}
 use Rattle.vcm_cause.specs.Watched.{seen}
-use Rattle.vcm_why.specs.Origins.{IsReadAs, AreReadAs, Traced, IsOrigin}
+use Rattle.vcm_backtrace.specs.Sources.{Sourced, IsSourced}
+use Rattle.vcm_backtrace.specs.Calls.{calls_field}
+use Rattle.vcm_trace.specs.Points.{point_rows}
 use Rattle.vcm_why.specs.Reasons.{why_lines}
-use Rattle.vcm_why.specs.Telling.{IsTraced, IsReason}
+use Rattle.vcm_why.specs.Telling.{IsReason}
+use Rattle.vcm_contacts.specs.Noted.{found_after}
 use Rattle.vcm_contacts.specs.Printed.{contacts_text}
 use Rattle.vcm_values.specs.Values.{values_text}
 use Rattle.vcm_trace.specs.Rows.{RunRows}
 use Rattle.vcm_job.specs.Jobs.{status_of}
 use Rattle.vcm_job.proofs.OneView.{one_view}
-use Rattle.vcm_views.specs.Views.{AreRows, TellsMargin, HasRunTo, picture_of, IsMarginOrResult, IsPicture, IsResultWith, IsWhyOf, AreContactsOf, contacts_status}
-use Rattle.vcm_views.specs.Views.{trace_view, points_view, margin_view, clearance_view, picture_view, why_view, contacts_view, values_view}
+use Rattle.vcm_views.specs.Views.{ArePointsOf, AreRows, TellsMargin, HasRunTo, picture_of, IsMarginOrResult, IsPicture, IsResultWith, IsWhyOf, AreContactsOf, contacts_status}
+use Rattle.vcm_views.specs.Views.{asked_for, trace_view, points_view, margin_view, clearance_view, first_view, picture_view, why_view, contacts_view, values_view}
 use Rattle.vcm_sheet.specs.Sayings.{Says}
 use Rattle.vcm_views.specs.declared.sheets.Titles.{Titles}
 use Rattle.vcm_views.specs.declared.untried.Untried.{Untried}
@@ -46,6 +45,8 @@ use Rattle.vcm_views.specs.Readings.{run_readings}
 use Rattle.vcm_views.specs.Views.{sheet_said}
 use Rattle.vcm_views.specs.Laws.{SheetsSayOne, ViewsAreOne}
 use Rattle.vcm_views.proofs.ClearanceViews.{same_clearance}
+use Rattle.vcm_views.proofs.FirstViews.{same_first}
+use Rattle.vcm_views.proofs.OneSource.{one_source}
 
 abbrev held : Tables → World → Held
 held tables state = record { tables = tables; state = state }
@@ -77,28 +78,35 @@ came_through part c n h x r e =
     subst (λ (w : World). NoneOrEnd w.stop) state (ended h.state.stop e)
 
 -- the text of a margin, or of a result in its place
-one_text : (part : Workpiece) → IsValid part → (c : Code) → codes.IsValid c → (done : ℕ) (h : Held) (is_end : Bool) → (is_end ≡ true → ComesThrough part c done) → (text other : List ℕ)
-    → TellsMargin is_end part c h done text → TellsMargin is_end part c h done other → text ≡ other
-one_text part valid c ok done h true comes text other x y =
-    x.1.1 ∙ ap (margin_text h.tables) (one_margin part valid c ok done (comes refl) x.0 y.0 x.1.0 y.1.0) ∙ sym y.1.1
-one_text part valid c ok done h false comes text other x y = x ∙ sym y
+one_text : (program : Option (List ℕ)) (part : Workpiece) → IsValid part → (c : Code) → codes.IsValid c → (done : ℕ) (h : Held) (is_end : Bool) → (is_end ≡ true → ComesThrough part c done)
+    → (text other : List ℕ) → TellsMargin is_end program part c h done text → TellsMargin is_end program part c h done other → text ≡ other
+one_text program part valid c ok done h true comes text other x y =
+    x.text_is ∙ ap (λ (m : Margin). margin_text h.tables m (margin_backtrace x.source part c m)) (one_margin part valid c ok done (comes refl) x.margin y.margin x.is_margin y.is_margin)
+    ∙ ap (λ s. margin_text h.tables y.margin (margin_backtrace s part c y.margin)) (one_source program x.source y.source x.is_source y.is_source) ∙ sym y.text_is
+one_text program part valid c ok done h false comes text other x y = x ∙ sym y
 
-module _ (part : Workpiece) (valid : IsValid part) (c : Code) (ok : codes.IsValid c) (n : ℕ) (text other : List ℕ) (status more : ℕ) where
-  one_margin_told : IsMarginOrResult part c n text status → IsMarginOrResult part c n other more → (text ≡ other) × (status ≡ more)
+module _ (program : Option (List ℕ)) (part : Workpiece) (valid : IsValid part) (c : Code) (ok : codes.IsValid c) (n : ℕ) (text other : List ℕ) (status more : ℕ) where
+  one_margin_told : IsMarginOrResult program part c n text status → IsMarginOrResult program part c n other more → (text ≡ other) × (status ≡ more)
   one_margin_told h k =
       let same = one_run_to part c n h.held k.held h.ran k.ran h.run k.run h.ample k.ample in
       let given : status ≡ more = h.status_is ∙ ap (λ (x : Held). status_of x.state.stop) same.0 ∙ sym k.status_is in
-      let told : TellsMargin (nat_eq status 0) part c h.held h.ran.done other =
-      subst (λ (x : Held). TellsMargin (nat_eq status 0) part c x h.ran.done other) (sym same.0)
-      (subst (λ (r : Ran). TellsMargin (nat_eq status 0) part c k.held r.done other) (sym same.1)
-      (subst (λ s. TellsMargin (nat_eq s 0) part c k.held k.ran.done other) (sym given) k.told)) in
+      let told : TellsMargin (nat_eq status 0) program part c h.held h.ran.done other =
+      subst (λ (x : Held). TellsMargin (nat_eq status 0) program part c x h.ran.done other) (sym same.0)
+      (subst (λ (r : Ran). TellsMargin (nat_eq status 0) program part c k.held r.done other) (sym same.1)
+      (subst (λ s. TellsMargin (nat_eq s 0) program part c k.held k.ran.done other) (sym given) k.told)) in
       let comes : nat_eq status 0 ≡ true → ComesThrough part c h.ran.done =
       λ e. came_through part c n h.held h.ran h.run (sym h.status_is ∙ eqb-true status 0 e) in
-      (one_text part valid c ok h.ran.done h.held (nat_eq status 0) comes text other h.told told, given)
+      (one_text program part valid c ok h.ran.done h.held (nat_eq status 0) comes text other h.told told, given)
 
 module _ (part : Workpiece) (c : Code) (n : ℕ) (text other : List ℕ) (status more : ℕ) where
   same_rows : (t : RunRows) → AreRows t part c n text status → AreRows t part c n other more → (text ≡ other) × (status ≡ more)
   same_rows t h k = (h.text_is ∙ sym k.text_is, h.status_is ∙ sym k.status_is)
+
+  same_points : (is_machine : Bool) (program : Option (List ℕ)) → ArePointsOf is_machine program part c n text status → ArePointsOf is_machine program part c n other more
+      → (text ≡ other) × (status ≡ more)
+  same_points is_machine program h k =
+      let one = one_source program h.source k.source h.is_source k.is_source in
+      same_rows (point_rows is_machine (calls_field k.source)) (subst (λ s. AreRows (point_rows is_machine (calls_field s)) part c n text status) one h.rows) k.rows
 
   same_picture : (is_close : Bool) (untried : Untried) → IsPicture part c n is_close untried text status → IsPicture part c n is_close untried other more → (text ≡ other) × (status ≡ more)
   same_picture is_close untried h k =
@@ -115,47 +123,15 @@ module _ (part : Workpiece) (c : Code) (n : ℕ) (text other : List ℕ) (status
       ∙ ap (λ (r : Ran). result_text k.held r.done ++ values_text k.held.tables k.held.state.variables places) same.1 in
       (h.text_is ∙ shown ∙ sym k.text_is, h.status_is ∙ ap (λ (x : Held). status_of x.state.stop) same.0 ∙ sym k.status_is)
 
-  same_contacts : (names : List (List ℕ)) → AreContactsOf names part c n text status → AreContactsOf names part c n other more → (text ≡ other) × (status ≡ more)
-  same_contacts names h k =
-      let contacts : h.contacts ≡ k.contacts = h.are.contacts_are ∙ sym k.are.contacts_are in
+  same_contacts : (names : List (List ℕ)) (program : Option (List ℕ)) → AreContactsOf names program part c n text status → AreContactsOf names program part c n other more
+      → (text ≡ other) × (status ≡ more)
+  same_contacts names program h k =
+      let contacts : h.found ≡ k.found =
+      h.are.found_are ∙ ap (λ s. found_after s part c n) (one_source program h.source k.source h.is_source k.is_source) ∙ sym k.are.found_are in
       let stop : h.stop ≡ k.stop = h.are.stop_is ∙ sym k.are.stop_is in (
-        h.text_is ∙ ap (λ x. contacts_text names c.tables x h.stop n) contacts ∙ ap (λ s. contacts_text names c.tables k.contacts s n) stop ∙ sym k.text_is,
-        h.status_is ∙ ap (λ x. contacts_status x h.stop) contacts ∙ ap (contacts_status k.contacts) stop ∙ sym k.status_is,
+        h.text_is ∙ ap (λ x. contacts_text names c.tables x h.stop n) contacts ∙ ap (λ s. contacts_text names c.tables k.found s n) stop ∙ sym k.text_is,
+        h.status_is ∙ ap (λ x. contacts_status x h.stop) contacts ∙ ap (contacts_status k.found) stop ∙ sym k.status_is,
       )
-
--- ---- where a statement comes from
-
-abbrev statement : ℕ → Form → Statement
-statement line form = record { line = line; form = form }
-
-one_statement : (l : Logical) (s t : Statement) → IsReadAs l s → IsReadAs l t → s ≡ t
-one_statement l s t h k =
-    let form : s.form ≡ t.form = (let p = h.form in let q = k.form in cc) in
-    ap (λ x. statement x s.form) (h.line ∙ sym k.line) ∙ ap (statement t.line) form
-
-one_list : (ls : List Logical) (ss ts : List Statement) → AreReadAs ls ss → AreReadAs ls ts → ss ≡ ts
-one_list [] ss ts h k = h ∙ sym k
-one_list (l ∷ ls) [] ts h k = absurd h
-one_list (l ∷ ls) (s ∷ ss) [] h k = absurd k
-one_list (l ∷ ls) (s ∷ ss) (t ∷ ts) h k = ap (λ x. x ∷ ss) (one_statement l s t h.0 k.0) ∙ ap (λ xs. t ∷ xs) (one_list ls ss ts h.1 k.1)
-
-abbrev traced : List ℕ → List Statement → List ℕ → Traced
-traced text statements chain = record { text = text; statements = statements; chain = chain }
-
-one_origin : (text : List ℕ) (number : ℕ) (t u : Traced) → IsOrigin text number t → IsOrigin text number u → t ≡ u
-one_origin text number t u h k =
-    let lines : h.lines ≡ k.lines = one_statements (grouped (kept_lines (lines_of text))) h.lines k.lines h.logical k.logical in
-    let statements : t.statements ≡ u.statements = one_list k.lines t.statements u.statements (subst (λ ls. AreReadAs ls t.statements) lines h.read) k.read in
-    let chain : t.chain ≡ u.chain = h.chain ∙ ap (λ ss. chain_of ss number) statements ∙ sym k.chain in
-    ap (λ x. traced x t.statements t.chain) (h.same ∙ sym k.same) ∙ ap (λ x. traced u.text x t.chain) statements ∙ ap (traced u.text u.statements) chain
-
-one_traced : (program : Option (List ℕ)) (number : ℕ) (t u : Option Traced) → IsTraced program number t → IsTraced program number u → t ≡ u
-one_traced (Some text) number (Some t) (Some u) h k = ap Some (one_origin text number t u h k)
-one_traced (Some text) number (Some t) None h k = absurd k
-one_traced (Some text) number None u h k = absurd h
-one_traced None number (Some t) u h k = absurd h
-one_traced None number None (Some u) h k = absurd k
-one_traced None number None None h k = refl
 
 module _ (names : List (List ℕ)) (program : Option (List ℕ)) (part : Workpiece) (c : Code) (n : ℕ) (text other : List ℕ) (stop left : Option StopPlace)
     (h : IsReason names program part c n stop (λ t. t ≡ text)) (k : IsReason names program part c n left (λ t. t ≡ other)) where
@@ -173,7 +149,7 @@ module _ (names : List (List ℕ)) (program : Option (List ℕ)) (part : Workpie
   same_behind = h.watched.behind ∙ ap (λ (r : Ran). behind_run part c r.done) same_run.2 ∙ sym k.watched.behind
 
   same_traced : h.traced ≡ k.traced
-  same_traced = one_traced program k.number h.traced k.traced (subst (λ i. IsTraced program i h.traced) same_run.1 h.is_traced) k.is_traced
+  same_traced = one_source program h.traced k.traced h.is_traced k.is_traced
 
   same_why : (text ≡ other) × (stop ≡ left)
   same_why = (
@@ -209,12 +185,14 @@ same_sheet t part c n text other status more h k =
 pub one_views : ViewsAreOne
 one_views = record {
   traces = λ part. one_view trace_view part (λ p l c n t u s m ok h k. same_rows part c n t u s m _ h k);
-  points = λ part is_machine. one_view (points_view is_machine) part (λ p l c n t u s m ok h k. same_rows part c n t u s m _ h k);
-  margins = λ part valid. one_view margin_view part (λ p l c n t u s m ok h k. one_margin_told part valid c ok n t u s m h k);
-  clearances = λ part names untried boxes valid are. one_view (clearance_view names untried boxes) part (λ p l c n t u s m ok h k. same_clearance names untried part boxes c n valid are t u s m h k);
+  points = λ part is_machine. one_view (points_view is_machine) part (λ p l c n t u s m ok h k. same_points part c n t u s m is_machine p h k);
+  margins = λ part valid. one_view margin_view part (λ p l c n t u s m ok h k. one_margin_told p part valid c ok n t u s m h k);
+  clearances = λ part tells_calls names untried boxes valid are. one_view (clearance_view tells_calls names untried boxes) part
+      (λ p l c n t u s m ok h k. same_clearance (asked_for tells_calls p) names untried part boxes c n valid are t u s m h k);
+  firsts = λ part names boxes. one_view (first_view names boxes) part (λ p l c n t u s m ok h k. same_first names boxes p part c n t u s m h k);
   pictures = λ part is_close untried. one_view (picture_view is_close untried) part (λ p l c n t u s m ok h k. same_picture part c n t u s m is_close untried h k);
   reasons = λ part names. one_view (why_view names) part (λ p l c n t u s m ok h k. same_reason names p part c n t u s m h k);
-  contacts = λ part names. one_view (contacts_view names) part (λ p l c n t u s m ok h k. same_contacts part c n t u s m names h k);
+  contacts = λ part names. one_view (contacts_view names) part (λ p l c n t u s m ok h k. same_contacts part c n t u s m names p h k);
   values = λ part places. one_view (values_view places) part (λ p l c n t u s m ok h k. same_values part c n t u s m places h k);
   sheets = λ part t. same_sheet t part;
 }

@@ -21,7 +21,7 @@ use Rattle.vcm_marks.specs.declared.mark.PlacedMark.{PlacedMark}
 use Rattle.vcm_way.specs.Ways.{Kept}
 use Rattle.vcm_way.specs.Following.{HasFollowed}
 use Rattle.vcm_picture.specs.Picture.{sheet, picture_text}
-use Rattle.vcm_steps.specs.Passages.{passages}
+use Rattle.vcm_trace.specs.Rows.{framed_steps}
 use Rattle.vcm_sheet.specs.declared.readings.Reading.{Reading}
 use Rattle.vcm_sheet.specs.Content.{content}
 use Rattle.vcm_sheet.specs.Filed.{SaidIn}
@@ -107,12 +107,12 @@ module _ (program : Option (List ℕ)) (notices : List Noticed) (w part : Workpi
 module _ (program : Option (List ℕ)) (notices : List Noticed) (w part : Workpiece) (same : w ≡ part) (c : Code) (n : ℕ) (held : Held) (ran : Ran) (way : Kept)
     (followed : HasFollowed w c n held ran way) (t : Titles) where
   -- what its steps measured, beside the same workpiece
-  readings_are : (readings : List Reading) (from : ℕ) → from ≡ first_step way.marks → readings ≡ readings_behind from [] (passages w c n)
+  readings_are : (readings : List Reading) (from : ℕ) → from ≡ first_step way.marks → readings ≡ readings_behind from [] (framed_steps w c n)
       → readings ≡ run_readings part c n way
-  readings_are readings from e h = h ∙ ap (λ f. readings_behind f [] (passages w c n)) e ∙ ap (λ p. run_readings p c n way) same
+  readings_are readings from e h = h ∙ ap (λ f. readings_behind f [] (framed_steps w c n)) e ∙ ap (λ p. run_readings p c n way) same
 
   module _ (ample : ran.end ≡ NoMemory → ⊥) (readings : List Reading) (from : ℕ) (from_is : from ≡ first_step way.marks)
-      (read : readings ≡ readings_behind from [] (passages w c n)) where
+      (read : readings ≡ readings_behind from [] (framed_steps w c n)) where
     -- a text that says what such a sheet says, with the run's status
     is_sheet : (text : List ℕ) (status : ℕ) → Says (sheet_said t part held ran.done way readings) text → status ≡ status_of held.state.stop
         → IsSheet t part c n text status

@@ -16,7 +16,8 @@ use Rattle.vcm_job.specs.Views.{IsViewed, IsCutShort}
 use Rattle.vcm_cause.specs.Watched.{seen}
 use Rattle.vcm_why.specs.Reasons.{why_lines}
 use Rattle.vcm_why.specs.Telling.{IsReason, IsWhy, IsNoWhy}
-use Rattle.vcm_contacts.specs.declared.contact.Contact.{Contact}
+use Rattle.vcm_backtrace.specs.Sources.{Sourced, IsSourced}
+use Rattle.vcm_contacts.specs.Noted.{Found}
 use Rattle.vcm_contacts.specs.Collecting.{AreContacts, AreNoContacts}
 use Rattle.vcm_contacts.specs.Printed.{contacts_text}
 use Rattle.vcm_views.specs.Views.{why_view, contacts_status, contacts_view}
@@ -61,21 +62,22 @@ module _ (names : List (List ℕ)) (program : Option (List ℕ)) (notices : List
     front = h.1.written;
   }
 
-  pub contacts_viewed : (tables : Tables) (contacts : List Contact) (stop : Option StopPlace) (status : ℕ) → tables ≡ c.tables → AreContacts part c n contacts stop
-      → Appends old new (contacts_text names tables contacts stop n) → status ≡ contacts_status contacts stop → IsViewed (contacts_view names) program notices part c n status old new
-  contacts_viewed tables contacts stop status e are w s = record {
-    text = contacts_text names c.tables contacts stop n;
-    tells = record { contacts = contacts; stop = stop; are = are; text_is = refl; status_is = s };
-    written = subst (λ t. Appends old new (contacts_text names t contacts stop n)) e w;
+  pub contacts_viewed : (source : Option Sourced) → IsSourced program source → (tables : Tables) (found : List Found) (stop : Option StopPlace) (status : ℕ) → tables ≡ c.tables
+      → AreContacts source part c n found stop → Appends old new (contacts_text names tables found stop n) → status ≡ contacts_status found stop
+      → IsViewed (contacts_view names) program notices part c n status old new
+  contacts_viewed source is tables found stop status e are w s = record {
+    text = contacts_text names c.tables found stop n;
+    tells = record { source = source; is_source = is; found = found; stop = stop; are = are; text_is = refl; status_is = s };
+    written = subst (λ t. Appends old new (contacts_text names t found stop n)) e w;
   }
 
-  pub contacts_cut_off : (tables : Tables) (contacts : List Contact) (stop : Option StopPlace) → tables ≡ c.tables → AreContacts part c n contacts stop
-      → AppendsFront old new (contacts_text names tables contacts stop n) → IsCutShort (contacts_view names) program notices part c n (Write n) old new
-  contacts_cut_off tables contacts stop e are w = record {
-    text = contacts_text names c.tables contacts stop n;
-    status = contacts_status contacts stop;
-    tells = record { contacts = contacts; stop = stop; are = are; text_is = refl; status_is = refl };
-    front = subst (λ t. AppendsFront old new (contacts_text names t contacts stop n)) e w;
+  pub contacts_cut_off : (source : Option Sourced) → IsSourced program source → (tables : Tables) (found : List Found) (stop : Option StopPlace) → tables ≡ c.tables
+      → AreContacts source part c n found stop → AppendsFront old new (contacts_text names tables found stop n) → IsCutShort (contacts_view names) program notices part c n (Write n) old new
+  contacts_cut_off source is tables found stop e are w = record {
+    text = contacts_text names c.tables found stop n;
+    status = contacts_status found stop;
+    tells = record { source = source; is_source = is; found = found; stop = stop; are = are; text_is = refl; status_is = refl };
+    front = subst (λ t. AppendsFront old new (contacts_text names t found stop n)) e w;
   }
 
   pub contacts_halted : (f : Unfinished) → AreNoContacts part c n f → Keeps old new → IsCutShort (contacts_view names) program notices part c n (cut_short f) old new

@@ -27,14 +27,14 @@ module _ (program : Option (List ℕ)) (notices : List Noticed) (w part : Workpi
     run_to : HasRunTo part c n held ran
     run_to = record { new = new; run = from_start; state = state; tables = tables }
 
-    told_viewed : (status : ℕ) (old after : Option (List ℕ)) → IsTold part c held ran.done status old after → IsViewed margin_view program notices part c n status old after
+    told_viewed : (status : ℕ) (old after : Option (List ℕ)) → IsTold program part c held ran.done status old after → IsViewed margin_view program notices part c n status old after
     told_viewed status old after t = record {
       text = t.text;
       tells = record { held = held; ran = ran; run = run_to; ample = ample; told = t.told; status_is = t.status_is };
       written = t.written;
     }
 
-    told_cut_short : (f : Fault InputRefusal) (old after : Option (List ℕ)) → IsNotTold part c held ran.done f old after → IsCutShort margin_view program notices part c n f old after
+    told_cut_short : (f : Fault InputRefusal) (old after : Option (List ℕ)) → IsNotTold program part c held ran.done f old after → IsCutShort margin_view program notices part c n f old after
     told_cut_short faults.NoMemory old after k = k
     told_cut_short (faults.Write d) old after t = record {
       text = t.text;
@@ -47,12 +47,12 @@ module _ (program : Option (List ℕ)) (notices : List Noticed) (w part : Workpi
     told_cut_short faults.Read old after t = absurd t
     told_cut_short faults.TooLong old after t = absurd t
 
-    pub viewed_of : (r : Result ℕ (Fault InputRefusal)) (old after : Option (List ℕ)) → IfOk r (λ status. IsTold part c held ran.done status old after)
+    pub viewed_of : (r : Result ℕ (Fault InputRefusal)) (old after : Option (List ℕ)) → IfOk r (λ status. IsTold program part c held ran.done status old after)
         → IfOk r (λ status. IsViewed margin_view program notices part c n status old after)
     viewed_of (Ok status) old after t = told_viewed status old after t
     viewed_of (Err f) old after t = tt
 
-    pub cut_short_of : (r : Result ℕ (Fault InputRefusal)) (old after : Option (List ℕ)) → IfErr r (λ f. IsNotTold part c held ran.done f old after)
+    pub cut_short_of : (r : Result ℕ (Fault InputRefusal)) (old after : Option (List ℕ)) → IfErr r (λ f. IsNotTold program part c held ran.done f old after)
         → IfErr r (λ f. IsCutShort margin_view program notices part c n f old after)
     cut_short_of (Ok status) old after t = tt
     cut_short_of (Err f) old after t = told_cut_short f old after t

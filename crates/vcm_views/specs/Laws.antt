@@ -8,7 +8,7 @@ use Rattle.vcm_code.specs.declared.code.Code.{Code}
 use Rattle.vcm_sheet.specs.Sayings.{Saying, Says}
 use Rattle.vcm_views.specs.declared.sheets.Titles.{Titles}
 use Rattle.vcm_views.specs.declared.untried.Untried.{Untried}
-use Rattle.vcm_views.specs.Views.{IsSheet, trace_view, points_view, margin_view, clearance_view, picture_view, why_view, contacts_view, values_view}
+use Rattle.vcm_views.specs.Views.{IsSheet, trace_view, points_view, margin_view, clearance_view, first_view, picture_view, why_view, contacts_view, values_view}
 
 -- two sheets of one code, in a run of at most as many steps, say the same, with one exit status
 abbrev pub SheetsSayOne : Titles → Workpiece → Type 0
@@ -22,7 +22,9 @@ pub record ViewsAreOne : Type 0 where
   pub traces : (part : Workpiece) → ViewAnswersAreOne trace_view part
   pub points : (part : Workpiece) (is_machine : Bool) → ViewAnswersAreOne (points_view is_machine) part
   pub margins : (part : Workpiece) → IsValid part → ViewAnswersAreOne margin_view part
-  pub clearances : (part : Workpiece) (names : List (List ℕ)) (untried : List ℕ) (boxes : List ProbeBox) → IsValid part → AreBoxes boxes → ViewAnswersAreOne (clearance_view names untried boxes) part
+  pub clearances : (part : Workpiece) (tells_calls : Bool) (names : List (List ℕ)) (untried : List ℕ) (boxes : List ProbeBox) → IsValid part → AreBoxes boxes
+      → ViewAnswersAreOne (clearance_view tells_calls names untried boxes) part
+  pub firsts : (part : Workpiece) (names : List (List ℕ)) (boxes : List ProbeBox) → ViewAnswersAreOne (first_view names boxes) part
   pub pictures : (part : Workpiece) (is_close : Bool) (untried : Untried) → ViewAnswersAreOne (picture_view is_close untried) part
   pub reasons : (part : Workpiece) (names : List (List ℕ)) → ViewAnswersAreOne (why_view names) part
   pub contacts : (part : Workpiece) (names : List (List ℕ)) → ViewAnswersAreOne (contacts_view names) part

@@ -1,12 +1,14 @@
 //! All contacts of a run in one go, as a view.
 
 ghost use Rattle.std.specs.Prelude.{◌≡◌, map};
+ghost use Rattle.vcm_contacts.specs.Noted.{seen};
 ghost use Rattle.vcm_views.specs.Views.{contacts_status, contacts_view};
 
+use crate::sources::source_in;
 use crate::unfinished::cut_short;
 use std::alloc::Global;
 use std::io::Write;
-use vcm_contacts::{Contact, collect_contacts, write_contacts};
+use vcm_contacts::{FoundContact, collect_contacts, write_contacts};
 use vcm_job::{Given, RunFault, Shows, status_of};
 use vcm_loader::Loaded;
 use vcm_motion::AnyPart;
@@ -15,8 +17,8 @@ use vcm_part::PartData;
 use vcm_spec::StopPlace;
 
 // The exit status: that of a collision where there is a contact, else that of the run.
-fn status_with(contacts: &[Contact], stop: Option<StopPlace>) -> u8
-    ensures { result ≡ contacts_status contacts.now stop }
+fn status_with(contacts: &[FoundContact], stop: Option<StopPlace>) -> u8
+    ensures { result ≡ contacts_status (map seen contacts.now) stop }
 {
     if contacts.is_empty() {
         status_of(stop)
@@ -39,7 +41,7 @@ impl<W: Write> Shows<W> for AllContacts<'_> {
         &self,
         alloc: Global,
         loaded: &Loaded<'_>,
-        _given: &Given,
+        given: &Given,
         part: &PartData,
         steps: u64,
         writer: &mut W,
@@ -47,7 +49,10 @@ impl<W: Write> Shows<W> for AllContacts<'_> {
         let Ok(workpiece) = AnyPart::of(alloc, part) else {
             return Err(RunFault::NoMemory);
         };
-        let found = match collect_contacts(alloc, loaded, &workpiece, part, steps) {
+        let Ok(source) = source_in(alloc, given) else {
+            return Err(RunFault::NoMemory);
+        };
+        let found = match collect_contacts(alloc, loaded, &source, &workpiece, part, steps) {
             Ok(found) => found,
             Err(fault) => return Err(cut_short(fault)),
         };
@@ -57,15 +62,8 @@ impl<W: Write> Shows<W> for AllContacts<'_> {
         let Ok(mut names) = BlockNames::new(alloc, self.block_names) else {
             return Err(RunFault::NoMemory);
         };
-        match write_contacts(
-            &tables,
-            &found.contacts,
-            found.stop,
-            steps,
-            &mut names,
-            writer,
-        ) {
-            Ok(()) => Ok(status_with(&found.contacts, found.stop)),
+        match write_contacts(&tables, &found.found, found.stop, steps, &mut names, writer) {
+            Ok(()) => Ok(status_with(&found.found, found.stop)),
             Err(_) => Err(RunFault::Write { done: steps }),
         }
     }

@@ -1,75 +1,44 @@
 //! What the steps of a run measure, for its sheet.
 
 ghost use Rattle.std.specs.Prelude.{◌≡◌, ◌++◌, [], refl, IfOk, OnOk};
-ghost use Rattle.vcm_num.specs.Number.{checked};
-ghost use Rattle.vcm_spec.specs.Effect.{at_index};
-ghost use Rattle.vcm_steps.specs.Passages.{passages};
 ghost use Rattle.vcm_trace.specs.Lines.{told_of};
-ghost use Rattle.vcm_trace.specs.Points.{gap};
-ghost use Rattle.vcm_views.specs.Readings.{length_of, off_by, reading_with, told_reading, step_reading, read_with, readings_behind, first_step};
+ghost use Rattle.vcm_trace.specs.Framed.{no_frames, frames_behind, framed};
+ghost use Rattle.vcm_trace.specs.Rows.{framed_steps};
+ghost use Rattle.vcm_views.specs.Readings.{reading_with, told_reading, step_reading, read_with, readings_behind, first_step};
 
 use std::alloc::Global;
 use vcm_fields::BorrowedStatement;
+use vcm_frame::Frame;
 use vcm_loader::Loaded;
 use vcm_machine::{End, Machine};
 use vcm_marks::PlacedMark;
 use vcm_motion::Part;
-use vcm_num::{Axis, Fault, NoMemory, Point, sub};
+use vcm_num::NoMemory;
 use vcm_sheet::Reading;
 use vcm_spec::Feature;
 use vcm_state::World;
 use vcm_steps::{Follows, follow_run};
-use vcm_trace::{Told, told_of};
+use vcm_trace::{
+    Frames, Told, feature_at, frame_of, keep_frame, no_frames, told_deviation, told_of,
+};
 
-// How far an actual place lies from a nominal one along a direction.
-fn gap(nominal: Point, actual: Point, toward: Axis) -> Result<i64, Fault>
-    ensures { result ≡ checked (gap nominal actual toward) }
-{
-    let axis = toward.index();
-    let is = actual.0[axis];
-    let wanted = nominal.0[axis];
-    if toward.is_forward() {
-        sub(is, wanted)
-    } else {
-        sub(wanted, is)
-    }
-}
-
-// A length, if it has 64 bits.
-fn length_of(length: Result<i64, Fault>) -> Option<i64>
-    ensures { result ≡ length_of length }
-{
-    match length {
-        Ok(length) => Some(length),
-        Err(_) => None,
-    }
-}
-
-// How far a point lies off, if its feature was declared.
-fn off_by(nominal: Option<Feature>, actual: Feature) -> Option<i64>
-    ensures { result ≡ off_by nominal actual }
-{
-    match nominal {
-        Some(nominal) => length_of(gap(nominal.at, actual.at, actual.toward)),
-        None => None,
-    }
-}
-
-// Appends what a step measured of a feature that was declared so, if its point is there.
+// Appends what a step measured in the current frame of a feature that was declared so, in such a frame, if its point is there.
 fn push_reading(
     readings: &mut Vec<Reading>,
     step: u64,
+    declared: Option<Frame>,
+    current: Frame,
     nominal: Option<Feature>,
     actual: Option<Feature>,
 ) -> Result<(), NoMemory>
-    ensures { OnOk result (readings.new.items ≡ readings.old.items ++ reading_with step nominal actual) }
+    ensures { OnOk result (readings.new.items ≡ readings.old.items ++ reading_with step declared current nominal actual) }
 {
     match actual {
         Some(actual) => {
             readings.push(Reading {
                 step,
                 at: actual.at,
-                deviation: off_by(nominal, actual),
+                deviation: told_deviation(declared, current, nominal, actual),
             })?;
             Ok(())
         }
@@ -77,30 +46,22 @@ fn push_reading(
     }
 }
 
-// The feature that stands at an index, if there is one.
-fn feature_at(features: &[Option<Feature>], index: u16) -> Option<Feature>
-    ensures { result ≡ at_index features.now index }
-{
-    match features.get(index as usize) {
-        Some(feature) => *feature,
-        None => None,
-    }
-}
-
-// Appends what a step measured that tells this, in the state after it.
+// Appends what a step measured that tells this, in the state after it, where features were declared in these frames.
 fn push_told(
     readings: &mut Vec<Reading>,
+    frames: &Frames,
     world: &World,
     told: Told,
     step: u64,
 ) -> Result<(), NoMemory>
-    ensures { OnOk result (readings.new.items ≡ readings.old.items ++ told_reading step world.now.state told) }
+    ensures { OnOk result (readings.new.items ≡ readings.old.items ++ told_reading frames.now step world.now.state told) }
 {
     match told {
         Told::Measured(index) => {
             let nominal = feature_at(world.nominal(), index);
             let actual = feature_at(world.actual(), index);
-            push_reading(readings, step, nominal, actual)
+            let declared = frame_of(frames, index);
+            push_reading(readings, step, declared, world.frame(), nominal, actual)
         }
         _ => Ok(()),
     }
@@ -109,15 +70,16 @@ fn push_told(
 // Appends what a step measured.
 fn push_step(
     readings: &mut Vec<Reading>,
+    frames: &Frames,
     statement: &BorrowedStatement<'_>,
     world: &World,
     step: u64,
 ) -> Result<(), NoMemory>
-    ensures { OnOk result (readings.new.items ≡ readings.old.items ++ step_reading step statement.now.op world.now.state world.now.state.stop) }
+    ensures { OnOk result (readings.new.items ≡ readings.old.items ++ step_reading frames.now step statement.now.op world.now.state world.now.state.stop) }
 {
     match world.stop() {
         Some(_) => Ok(()),
-        None => push_told(readings, world, told_of(&statement.op), step),
+        None => push_told(readings, frames, world, told_of(&statement.op), step),
     }
 }
 
@@ -125,17 +87,25 @@ fn push_step(
 fn read_step(
     readings: &mut Vec<Reading>,
     from: u64,
+    frames: &Frames,
     statement: &BorrowedStatement<'_>,
     world: &World,
     step: u64,
 ) -> Result<(), NoMemory>
-    ensures { OnOk result (readings.new.items ≡ read_with from readings.old.items step statement.now.op world.now.state world.now.state.stop) }
+    ensures { OnOk result (readings.new.items ≡ read_with from readings.old.items frames.now step statement.now.op world.now.state world.now.state.stop) }
 {
     if from <= step {
-        push_step(readings, statement, world, step)
+        push_step(readings, frames, statement, world, step)
     } else {
         Ok(())
     }
+}
+
+// What was measured so far, and the frames in which features were declared.
+#[derive(Drop)]
+struct Progress {
+    readings: Vec<Reading>,
+    frames: Frames,
 }
 
 // Reads what the steps of a run measure, from one of them on.
@@ -144,7 +114,7 @@ struct Reader {
     from: u64,
 }
 
-impl Follows<Vec<Reading>> for Reader {
+impl Follows<Progress> for Reader {
     type Before = ();
 
     type Fault = NoMemory;
@@ -153,11 +123,12 @@ impl Follows<Vec<Reading>> for Reader {
 
     ghost Looked = { λ s b w statement. Unit {0} };
 
-    ghost Has = { λ s tables from to ps. to.items ≡ readings_behind s.from from.items ps };
+    ghost Has = { λ s tables from to ps. (to.frames ≡ frames_behind from.frames ps)
+        × (to.readings.items ≡ readings_behind s.from from.readings.items (framed from.frames ps)) };
 
     ghost Broke = { λ s tables from to ps p f. Unit {0} };
 
-    ghost nothing = { λ s tables x. refl };
+    ghost nothing = { λ s tables x. (refl, refl) };
 
     fn look(&self, _world: &World, _statement: &BorrowedStatement<'_>) {}
 
@@ -169,9 +140,18 @@ impl Follows<Vec<Reading>> for Reader {
         statement: &BorrowedStatement<'_>,
         world: &World,
         _next: u32,
-        to: &mut Vec<Reading>,
+        to: &mut Progress,
     ) -> Result<(), NoMemory> {
-        read_step(to, self.from, statement, world, count)
+        read_step(
+            &mut to.readings,
+            self.from,
+            &to.frames,
+            statement,
+            world,
+            count,
+        )?;
+        keep_frame(&mut to.frames, statement, world);
+        Ok(())
     }
 }
 
@@ -185,6 +165,16 @@ pub(crate) fn first_step(marks: &[PlacedMark]) -> u64
     }
 }
 
+// What is known before the first step of a machine.
+fn opening<P: Part>(alloc: Global, machine: &Machine<'_, P>) -> Result<Progress, NoMemory>
+    ensures readings { IfOk result (λ p. p.readings.items ≡ []) }
+    ensures frames { IfOk result (λ p. p.frames ≡ no_frames machine.now.code.tables) }
+{
+    let frames = no_frames(alloc, machine.world().tables().features().len())?;
+    let readings = Vec::new(alloc);
+    Ok(Progress { readings, frames })
+}
+
 /// What the steps measure of a run of a loaded code for at most so many steps, from one of them on.
 ///
 /// Errors: want of memory.
@@ -195,15 +185,15 @@ pub(crate) fn readings_of<P: Part>(
     steps: u64,
     from: u64,
 ) -> Result<Vec<Reading>, NoMemory>
-    ensures { IfOk result (λ v. v.items ≡ readings_behind from [] (passages (P.part part.now) loaded.now steps)) }
+    ensures { IfOk result (λ v. v.items ≡ readings_behind from [] (framed_steps (P.part part.now) loaded.now steps)) }
 {
     let mut machine = Machine::new(alloc, loaded, part)?;
-    let mut readings = Vec::new(alloc);
+    let mut progress = opening(alloc, &machine)?;
     let reader = Reader { from };
-    let ran = follow_run(alloc, loaded, &mut machine, steps, &reader, &mut readings)?;
+    let ran = follow_run(alloc, loaded, &mut machine, steps, &reader, &mut progress)?;
     match ran.end {
         End::NoMemory => Err(NoMemory),
-        End::Count => Ok(readings),
-        End::Stopped => Ok(readings),
+        End::Count => Ok(progress.readings),
+        End::Stopped => Ok(progress.readings),
     }
 }

@@ -12,11 +12,12 @@ use vcm_job::{Given, RunFault, Shows, is_halted, status_of};
 use vcm_loader::Loaded;
 use vcm_motion::AnyPart;
 use vcm_part::PartData;
-use vcm_sheet::{Lines, PictureFault, Reading, Sheet, write_sheet};
+use vcm_sheet::{Lines, Paper, PictureFault, Reading, Sheet, write_sheet};
 use vcm_state::World;
 use vcm_way::{Way, follow};
 
-/// What a sheet shows besides the run: the names of the files and of the blocks, the source lines, whether it is close, and what of a whole program wasn't tried.
+/// What a sheet shows besides the run: the names of the files and of the blocks, the source lines, whether it is close, what of a whole program wasn't tried, and perhaps a
+/// paper, with the title of the program.
 #[derive(Clone, Copy)]
 pub struct Titles<'a> {
     pub program_name: &'a [u8],
@@ -25,6 +26,8 @@ pub struct Titles<'a> {
     pub lines: Lines,
     pub is_close: bool,
     pub untried: Untried<'a>,
+    pub paper: Option<Paper>,
+    pub title: &'a [u8],
 }
 
 // Writes the sheet of a run that came to a state behind so many steps, which measured this, and gives the exit status.
@@ -58,6 +61,8 @@ fn file<W: Write>(
         part_name: titles.part_name,
         block_names: titles.block_names,
         untried: titles.untried.lines,
+        paper: titles.paper,
+        title: titles.title,
     };
     match write_sheet(alloc, &sheet, writer) {
         Ok(()) => Ok(status),

@@ -2,9 +2,11 @@
 
 ghost use Rattle.vcm_views.specs.Views.{trace_view, points_view};
 
+use crate::sources::source_in;
 use crate::unfinished::cut_short;
 use std::alloc::Global;
 use std::io::Write;
+use vcm_backtrace::CallFields;
 use vcm_job::{Given, RunFault, Shows, status_of};
 use vcm_loader::Loaded;
 use vcm_motion::AnyPart;
@@ -50,7 +52,7 @@ impl<W: Write> Shows<W> for Points {
         &self,
         alloc: Global,
         loaded: &Loaded<'_>,
-        _given: &Given,
+        given: &Given,
         part: &PartData,
         steps: u64,
         writer: &mut W,
@@ -58,8 +60,12 @@ impl<W: Write> Shows<W> for Points {
         let Ok(workpiece) = AnyPart::of(alloc, part) else {
             return Err(RunFault::NoMemory);
         };
+        let Ok(source) = source_in(alloc, given) else {
+            return Err(RunFault::NoMemory);
+        };
         let rows = PointRows {
             is_machine: self.is_machine,
+            calls: &CallFields { source: &source },
         };
         match write_rows(alloc, loaded, &workpiece, steps, &rows, writer) {
             Ok(stop) => Ok(status_of(stop)),

@@ -6,12 +6,12 @@ use Rattle.vcm_code.specs.declared.code.Code.{Code}
 use Rattle.vcm_cause.specs.declared.watching.Watched.{Watched}
 use Rattle.vcm_steps.specs.declared.fault.Unfinished.{Unfinished}
 use Rattle.vcm_steps.specs.declared.fault.Unfinished.TheVariants as faults
-use Rattle.vcm_why.specs.Origins.{Traced}
-use Rattle.vcm_why.specs.Telling.{IsTraced, IsNoWhy}
+use Rattle.vcm_backtrace.specs.Sources.{Sourced, IsSourced}
+use Rattle.vcm_why.specs.Telling.{IsNoWhy}
 use Rattle.vcm_why.specs.inner.Watching.{IsAmple, IsNotTold}
 
-module _ (names : List (List ℕ)) (text : Option (List ℕ)) (traced : Option Traced) (part : Workpiece) (c : Code) (n : ℕ) (w : Watched) (old new : Option (List ℕ)) (h : IsAmple part c n w)
-    (t : IsTraced text w.next traced) where
+module _ (names : List (List ℕ)) (text : Option (List ℕ)) (traced : Option Sourced) (part : Workpiece) (c : Code) (n : ℕ) (w : Watched) (old new : Option (List ℕ)) (h : IsAmple part c n w)
+    (t : IsSourced text traced) where
   fault_told : (f : Unfinished) → IsNotTold names traced part c w f old new → IsNoWhy names text part c n f old new
   fault_told faults.NoMemory k = absurd k
   fault_told (faults.Memory done) k = absurd k

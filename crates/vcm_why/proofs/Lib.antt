@@ -1,3 +1,1 @@
-pub mod Turning
 pub mod Faults
-pub mod Reading

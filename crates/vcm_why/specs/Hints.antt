@@ -1,4 +1,4 @@
--- What would mend a stop on a way: the limit past which its aim lies, the next block on the line of a search, the length of a way back that is free.
+-- What would mend a stop on a way: the limit past which its aim lies, the next block on the line of a search, the length of a way back and of an approach that is free.
 use Rattle.std.specs.Prelude.{ℕ, ℤ, int_lt, if◌then◌else◌, List, [], ◌∷◌, ◌++◌, Option, Some, None, decimal, codes}
 use Rattle.vcm_num.specs.declared.point.Point.{Point}
 use Rattle.vcm_num.specs.Point.{coordinate}
@@ -9,12 +9,15 @@ use Rattle.vcm_spec.specs.declared.words.MovePhase.{MovePhase}
 use Rattle.vcm_spec.specs.declared.words.MovePhase.TheVariants.{Move, Approach, Search, Retract}
 use Rattle.vcm_spec.specs.declared.workpiece.Bounds.{Bounds}
 use Rattle.vcm_spec.specs.Workpiece.{Workpiece}
+use Rattle.vcm_spec.specs.World.{World}
+use Rattle.vcm_code.specs.Code.{Op}
 use Rattle.vcm_report.specs.Printed.{in_a_row}
 use Rattle.vcm_cause.specs.declared.ahead.Ahead.{Ahead}
 use Rattle.vcm_cause.specs.declared.cause.Obstacle.{Obstacle}
 use Rattle.vcm_cause.specs.declared.cause.Cause.{Cause}
 use Rattle.vcm_cause.specs.declared.cause.Cause.TheVariants.{Elsewhere, Way, Met}
 use Rattle.vcm_cause.specs.Ahead.{ahead, free_length}
+use Rattle.vcm_why.specs.Approaches.{approach_lines}
 
 -- a coordinate on an axis, and the limit past which it lies
 abbrev pub past_line : (axis : List ℕ) → (at : ℤ) → (words : List ℕ) → (limit : ℤ) → List ℕ
@@ -78,15 +81,15 @@ back_lines part (Way from to) = []
 back_lines part (Met met) = back_line part.bounds met
 
 -- of a collision on this part of a motion
-abbrev pub phase_lines : Workpiece → MovePhase → Cause → List ℕ
-phase_lines part Move cause = []
-phase_lines part Approach cause = []
-phase_lines part Search cause = []
-phase_lines part Retract cause = back_lines part cause
+abbrev pub phase_lines : Workpiece → World → Op → MovePhase → Cause → List ℕ
+phase_lines part w op Move cause = []
+phase_lines part w op Approach cause = approach_lines part w op cause
+phase_lines part w op Search cause = []
+phase_lines part w op Retract cause = back_lines part cause
 
--- what would mend a stop
-abbrev pub hint_lines : Workpiece → Stop → Cause → List ℕ
-hint_lines part (Travel phase) cause = travel_lines part cause
-hint_lines part Missed cause = missed_lines part cause
-hint_lines part (Collision phase hit) cause = phase_lines part phase cause
-hint_lines part why cause = []
+-- what would mend a stop in this state, at a statement that does this
+abbrev pub hint_lines : Workpiece → World → Op → Stop → Cause → List ℕ
+hint_lines part w op (Travel phase) cause = travel_lines part cause
+hint_lines part w op Missed cause = missed_lines part cause
+hint_lines part w op (Collision phase hit) cause = phase_lines part w op phase cause
+hint_lines part w op why cause = []

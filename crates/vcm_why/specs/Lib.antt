@@ -1,9 +1,7 @@
+pub mod Approaches
 pub mod Causes
 pub mod Framed
 pub mod Hints
-pub mod Loops
-pub mod Origins
-pub mod Sources
 pub mod Reasons
 pub mod Telling
 pub mod inner

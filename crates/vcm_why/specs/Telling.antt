@@ -1,5 +1,5 @@
 -- A run of which it is told why it stopped.
-use Rattle.std.specs.Prelude.{◌≡◌, ℕ, List, Option, Some, None}
+use Rattle.std.specs.Prelude.{◌≡◌, ℕ, List, Option}
 use Rattle.std.specs.Io.KnownBytes.{Appends, Keeps}
 use Rattle.vcm_num.specs.Written.{AppendsFront}
 use Rattle.vcm_spec.specs.declared.stop.StopPlace.{StopPlace}
@@ -13,15 +13,8 @@ use Rattle.vcm_cause.specs.declared.watching.Progress.{Progress}
 use Rattle.vcm_cause.specs.Watched.{seen, HasWatched}
 use Rattle.vcm_steps.specs.declared.fault.Unfinished.{Unfinished}
 use Rattle.vcm_steps.specs.declared.fault.Unfinished.TheVariants as faults
-use Rattle.vcm_why.specs.Origins.{Traced, IsOrigin}
+use Rattle.vcm_backtrace.specs.Sources.{Sourced, IsSourced}
 use Rattle.vcm_why.specs.Reasons.{why_lines}
-
--- where the statement with this number comes from, if there is a text
-abbrev pub IsTraced : Option (List ℕ) → (number : ℕ) → Option Traced → Type 0
-IsTraced (Some text) number (Some t) = IsOrigin text number t
-IsTraced (Some text) number None = ⊥
-IsTraced None number (Some t) = ⊥
-IsTraced None number None = Unit {0}
 
 -- what is told of a run for at most n steps that memory didn't cut short, of a code from this text or from none, beside blocks with these names; W is what
 -- became of it
@@ -32,8 +25,8 @@ pub record IsReason (names : List (List ℕ)) (text : Option (List ℕ)) (part :
   pub progress : Progress
   pub watched : HasWatched part c n held number ran progress
   pub ample : ran.end ≡ NoMemory → ⊥
-  pub traced : Option Traced
-  pub is_traced : IsTraced text number traced
+  pub traced : Option Sourced
+  pub is_traced : IsSourced text traced
   pub stop_is : stop ≡ held.state.stop
   pub written : W (why_lines names traced part c.statements held number (seen progress) ran.done)
 

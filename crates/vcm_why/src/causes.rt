@@ -11,8 +11,10 @@ use vcm_cause::{Cause, FreeSide, Obstacle, Side};
 use vcm_num::{Point, WriteFault, thousandths_text, write_all, write_pieces};
 use vcm_report::write_point;
 
-// Writes a point in millimetres between two texts.
-fn write_between<W: Write>(
+/// Writes a point in millimetres between two texts.
+///
+/// Errors: the writer failed, or took no byte; then it has taken a front of that, and not all of it.
+pub fn write_between<W: Write>(
     before: &[u8],
     at: Point,
     after: &[u8],
@@ -25,8 +27,10 @@ fn write_between<W: Write>(
     write_all(writer, after)
 }
 
-// Writes a way.
-fn write_way<W: Write>(from: Point, to: Point, writer: &mut W) -> Result<(), WriteFault>
+/// Writes the line of a way.
+///
+/// Errors: the writer failed, or took no byte; then it has taken a front of the line, and not all of it.
+pub fn write_way<W: Write>(from: Point, to: Point, writer: &mut W) -> Result<(), WriteFault>
     ensures { Wrote (W.contents writer.old) (W.contents writer.new) (way_line from to) result }
 {
     write_between(b"way ", from, b" to ", writer)?;
@@ -49,8 +53,10 @@ fn write_block<W: Write>(block: u32, writer: &mut W) -> Result<(), WriteFault>
     write_pieces(writer, &[b"block ", number.format(block).as_bytes(), b", "])
 }
 
-// Writes the number of a block and its corners.
-fn write_block_line<W: Write>(met: &Obstacle, writer: &mut W) -> Result<(), WriteFault>
+/// Writes the number of a block and its corners.
+///
+/// Errors: the writer failed, or took no byte; then it has taken a front of that, and not all of it.
+pub fn write_block_line<W: Write>(met: &Obstacle, writer: &mut W) -> Result<(), WriteFault>
     ensures { Wrote (W.contents writer.old) (W.contents writer.new) (block_line met.now) result }
 {
     write_block(met.contact.block, writer)?;
@@ -153,8 +159,10 @@ fn write_alone<W: Write>(beside: Option<FreeSide>, writer: &mut W) -> Result<(),
     }
 }
 
-// Writes where a way is free of a block.
-fn write_free<W: Write>(
+/// Writes where a way is free of a block.
+///
+/// Errors: the writer failed, or took no byte; then it has taken a front of the line, and not all of it.
+pub fn write_free<W: Write>(
     over: Option<i64>,
     beside: Option<FreeSide>,
     writer: &mut W,

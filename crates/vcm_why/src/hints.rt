@@ -5,13 +5,16 @@ ghost use Rattle.vcm_num.specs.Point.{coordinate};
 ghost use Rattle.vcm_num.specs.Written.{Wrote};
 ghost use Rattle.vcm_why.specs.Hints.{past_line, limit_line, limit_lines, next_front, next_line, ahead_line, length_text, length_line, back_line, travel_lines, missed_lines, back_lines, phase_lines, hint_lines};
 
+use crate::approaches::write_approach;
 use crate::causes::write_length;
 use itoa::Buffer;
 use std::io::Write;
 use vcm_cause::{Ahead, Cause, Obstacle, block_ahead, free_length};
+use vcm_fields::BorrowedOp;
 use vcm_num::{Point, WriteFault, thousandths_text, write_all, write_pieces};
 use vcm_part::PartData;
 use vcm_spec::{Bounds, MovePhase, Stop};
+use vcm_state::World;
 
 // Writes a coordinate on an axis, and the limit past which it lies.
 fn write_past<W: Write>(
@@ -162,35 +165,39 @@ fn write_met_back<W: Write>(
 // Writes what is told of a collision on this part of a motion.
 fn write_phase<W: Write>(
     part: &PartData,
+    world: &World,
+    op: &BorrowedOp<'_>,
     phase: MovePhase,
     cause: &Cause,
     writer: &mut W,
 ) -> Result<(), WriteFault>
-    ensures { Wrote (W.contents writer.old) (W.contents writer.new) (phase_lines part.now phase cause.now) result }
+    ensures { Wrote (W.contents writer.old) (W.contents writer.new) (phase_lines part.now world.now.state op.now phase cause.now) result }
 {
     match phase {
         MovePhase::Move => Ok(()),
-        MovePhase::Approach => Ok(()),
+        MovePhase::Approach => write_approach(part, world, op, cause, writer),
         MovePhase::Search => Ok(()),
         MovePhase::Retract => write_met_back(part, cause, writer),
     }
 }
 
-/// Writes what would mend a stop.
+/// Writes what would mend a stop, in this state at a statement that does this.
 ///
 /// Errors: the writer failed, or took no byte; then it has taken a front of the lines, and not all of them.
 pub(crate) fn write_hints<W: Write>(
     part: &PartData,
+    world: &World,
+    op: &BorrowedOp<'_>,
     stop: Stop,
     cause: &Cause,
     writer: &mut W,
 ) -> Result<(), WriteFault>
-    ensures { Wrote (W.contents writer.old) (W.contents writer.new) (hint_lines part.now stop cause.now) result }
+    ensures { Wrote (W.contents writer.old) (W.contents writer.new) (hint_lines part.now world.now.state op.now stop cause.now) result }
 {
     match stop {
         Stop::Travel(_) => write_travel(part, cause, writer),
         Stop::Missed => write_missed(part, cause, writer),
-        Stop::Collision(phase, _) => write_phase(part, phase, cause, writer),
+        Stop::Collision(phase, _) => write_phase(part, world, op, phase, cause, writer),
         _ => Ok(()),
     }
 }

@@ -1,6 +1,6 @@
 //! What is told of a run that was watched. Nothing here takes memory.
 
-ghost use Rattle.std.specs.Prelude.{◌≡◌, ◌<◌, length};
+ghost use Rattle.std.specs.Prelude.{◌≡◌, ◌<◌, length, slice_get};
 ghost use Rattle.vcm_num.specs.Written.{Wrote};
 ghost use Rattle.vcm_cause.specs.Watched.{seen};
 ghost use Rattle.vcm_why.specs.Reasons.{text_lines, where_lines, stop_front, is_of_text, motion_lines, stop_lines, is_ended, why_lines};
@@ -9,10 +9,8 @@ ghost use Rattle.vcm_cause.specs.Cause.{cause_of};
 use crate::causes::write_cause;
 use crate::framed::write_frame;
 use crate::hints::write_hints;
-use crate::loops::write_loops;
-use crate::origin::Origin;
-use crate::source::write_origin;
 use std::io::Write;
+use vcm_backtrace::{Source, Standing, write_source_line, write_sourced};
 use vcm_cause::{Progress, Rounds, cause_of};
 use vcm_items::Tables;
 use vcm_loader::Loaded;
@@ -25,7 +23,7 @@ use vcm_state::World;
 
 // Writes the line of the text and the CALLs that a statement comes from, and the loops round it.
 fn write_text<W: Write>(
-    origin: &Origin<'_>,
+    source: &Source<'_>,
     loaded: &Loaded<'_>,
     world: &World,
     rounds: &Rounds,
@@ -33,18 +31,22 @@ fn write_text<W: Write>(
     line: u32,
     writer: &mut W,
 ) -> Result<(), WriteFault>
-    requires { number < length loaded.now.statements }
-    ensures { Wrote (W.contents writer.old) (W.contents writer.new) (text_lines origin.now loaded.now.statements world.now rounds.now number line) result }
+    ensures { Wrote (W.contents writer.old) (W.contents writer.new) (text_lines source.now loaded.now.statements world.now rounds.now number line) result }
 {
-    write_origin(origin, line, writer)?;
-    write_loops(loaded, world, rounds, number, writer)
+    let standing = Standing {
+        tables: world.tables(),
+        variables: world.variables(),
+        rounds,
+    };
+    write_source_line(source, line, writer)?;
+    write_sourced(source, loaded, &standing, number, writer)
 }
 
 /// Writes where a statement comes from, of which nothing is known without a text.
 ///
 /// Errors: the writer failed, or took no byte; then it has taken a front of the lines, and not all of them.
 pub fn write_where<W: Write>(
-    origin: &Option<Origin<'_>>,
+    source: &Option<Source<'_>>,
     loaded: &Loaded<'_>,
     world: &World,
     rounds: &Rounds,
@@ -52,11 +54,10 @@ pub fn write_where<W: Write>(
     line: u32,
     writer: &mut W,
 ) -> Result<(), WriteFault>
-    requires { number < length loaded.now.statements }
-    ensures { Wrote (W.contents writer.old) (W.contents writer.new) (where_lines origin.now loaded.now.statements world.now rounds.now number line) result }
+    ensures { Wrote (W.contents writer.old) (W.contents writer.new) (where_lines source.now loaded.now.statements world.now rounds.now number line) result }
 {
-    match origin {
-        Some(origin) => write_text(origin, loaded, world, rounds, number, line, writer),
+    match source {
+        Some(source) => write_text(source, loaded, world, rounds, number, line, writer),
         None => write_all(
             writer,
             b"the source line, the calls and the loops stand in the program's text; an image has none\n",
@@ -85,10 +86,10 @@ fn write_named_stop<W: Write>(
 }
 
 // Whether lines are those of a text.
-fn is_of_text(origin: &Option<Origin<'_>>) -> bool
-    ensures { result ≡ is_of_text origin.now }
+fn is_of_text(source: &Option<Source<'_>>) -> bool
+    ensures { result ≡ is_of_text source.now }
 {
-    match origin {
+    match source {
         Some(_) => true,
         None => false,
     }
@@ -96,25 +97,29 @@ fn is_of_text(origin: &Option<Origin<'_>>) -> bool
 
 // Writes what is told of the motion of a stop.
 fn write_motion<W: Write>(
+    loaded: &Loaded<'_>,
     part: &PartData,
     world: &World,
     progress: &Progress,
+    number: u32,
     is_text: bool,
     stop: Stop,
     writer: &mut W,
 ) -> Result<(), WriteFault>
+    requires { number < length loaded.now.statements }
     ensures { Wrote (W.contents writer.old) (W.contents writer.new)
-        (motion_lines part.now world.now.state.frame is_text (seen progress.now).framed stop (cause_of part.now (seen progress.now).marks)) result }
+        (motion_lines part.now world.now.state (slice_get loaded.now.statements number) is_text (seen progress.now).framed stop (cause_of part.now (seen progress.now).marks)) result }
 {
     let cause = cause_of(part, progress.marks.as_slice());
+    let statement = loaded.statement(number as usize);
     write_cause(&cause, writer)?;
-    write_hints(part, stop, &cause, writer)?;
+    write_hints(part, world, &statement.op, stop, &cause, writer)?;
     write_frame(world.frame(), is_text, progress.framed, &cause, writer)
 }
 
 // Writes a stop that isn't the program's end.
 fn write_stop<W: Write>(
-    origin: &Option<Origin<'_>>,
+    source: &Option<Source<'_>>,
     loaded: &Loaded<'_>,
     part: &PartData,
     world: &World,
@@ -125,11 +130,11 @@ fn write_stop<W: Write>(
     writer: &mut W,
 ) -> Result<(), WriteFault>
     requires { number < length loaded.now.statements }
-    ensures { Wrote (W.contents writer.old) (W.contents writer.new) (stop_lines names.now origin.now part.now loaded.now.statements world.now number (seen progress.now) place) result }
+    ensures { Wrote (W.contents writer.old) (W.contents writer.new) (stop_lines names.now source.now part.now loaded.now.statements world.now number (seen progress.now) place) result }
 {
     write_named_stop(world.tables(), place, names, writer)?;
     write_where(
-        origin,
+        source,
         loaded,
         world,
         &progress.rounds,
@@ -137,15 +142,17 @@ fn write_stop<W: Write>(
         place.line,
         writer,
     )?;
-    let is_text = is_of_text(origin);
-    write_motion(part, world, progress, is_text, place.stop, writer)
+    let is_text = is_of_text(source);
+    write_motion(
+        loaded, part, world, progress, number, is_text, place.stop, writer,
+    )
 }
 
 /// Writes what is told of a run that came to a state with this number of the next statement after so many steps, beside blocks with these names.
 ///
 /// Errors: the writer failed, or took no byte; then it has taken a front of the text, and not all of it.
 pub fn write_why<W: Write>(
-    origin: &Option<Origin<'_>>,
+    source: &Option<Source<'_>>,
     loaded: &Loaded<'_>,
     part: &PartData,
     world: &World,
@@ -156,7 +163,7 @@ pub fn write_why<W: Write>(
     writer: &mut W,
 ) -> Result<(), WriteFault>
     requires { number < length loaded.now.statements }
-    ensures { Wrote (W.contents writer.old) (W.contents writer.new) (why_lines names.now origin.now part.now loaded.now.statements world.now number (seen progress.now) done) result }
+    ensures { Wrote (W.contents writer.old) (W.contents writer.new) (why_lines names.now source.now part.now loaded.now.statements world.now number (seen progress.now) done) result }
 {
     match world.stop() {
         None => write_no_stop(done, writer),
@@ -165,7 +172,7 @@ pub fn write_why<W: Write>(
                 return write_stop_line(world.tables(), place, writer);
             }
             write_stop(
-                origin, loaded, part, world, progress, number, place, names, writer,
+                source, loaded, part, world, progress, number, place, names, writer,
             )
         }
     }

@@ -4,10 +4,10 @@ ghost use Rattle.std.specs.Prelude.{◌≡◌, ◌<◌, Some, None, length, IfOk
 ghost use Rattle.vcm_why.specs.inner.Watching.{IsAmple, IsHalted, IsTold, IsNotTold};
 ghost use Rattle.vcm_why.specs.Telling.{IsWhy, IsNoWhy};
 
-use crate::origin::{Origin, origin_of};
 use crate::stops::write_why;
 use std::alloc::Global;
 use std::io::Write;
+use vcm_backtrace::{Source, source_of};
 use vcm_cause::{Watched, watch};
 use vcm_loader::Loaded;
 use vcm_machine::End;
@@ -19,7 +19,7 @@ use vcm_steps::Unfinished;
 
 // Writes what is told of a run that was watched, and gives its stop.
 fn tell<W: Write>(
-    origin: &Option<Origin<'_>>,
+    source: &Option<Source<'_>>,
     loaded: &Loaded<'_>,
     part: &PartData,
     watched: &Watched,
@@ -27,13 +27,13 @@ fn tell<W: Write>(
     writer: &mut W,
 ) -> Result<Option<StopPlace>, Unfinished>
     requires { watched.now.next < length loaded.now.statements }
-    ensures told { IfOk result (λ stop. IsTold names.now origin.now part.now loaded.now watched.now stop (W.contents writer.old) (W.contents writer.new)) }
-    ensures fault { IfErr result (λ f. IsNotTold names.now origin.now part.now loaded.now watched.now f (W.contents writer.old) (W.contents writer.new)) }
+    ensures told { IfOk result (λ stop. IsTold names.now source.now part.now loaded.now watched.now stop (W.contents writer.old) (W.contents writer.new)) }
+    ensures fault { IfErr result (λ f. IsNotTold names.now source.now part.now loaded.now watched.now f (W.contents writer.old) (W.contents writer.new)) }
 {
     let world = &watched.world;
     let done = watched.ran.done;
     match write_why(
-        origin,
+        source,
         loaded,
         part,
         world,
@@ -94,10 +94,10 @@ pub fn why_text<P: Part, W: Write>(
         Ok(watched) => watched,
         Err(fault) => return Err(fault),
     };
-    match origin_of(alloc, text, watched.next) {
-        Ok(origin) => {
-            let origin = Some(origin);
-            tell(&origin, loaded, blocks, &watched, names, writer)
+    match source_of(alloc, text) {
+        Ok(source) => {
+            let source = Some(source);
+            tell(&source, loaded, blocks, &watched, names, writer)
         }
         // The text of a program that was built is refused for want of memory alone.
         Err(_) => Err(Unfinished::NoMemory),

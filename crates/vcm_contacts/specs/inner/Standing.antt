@@ -1,5 +1,5 @@
 -- A run that passes, as it stands behind so many steps.
-use Rattle.std.specs.Prelude.{◌≡◌, ℕ, List, [], ◌∷◌, Option, Some, None, slice_get}
+use Rattle.std.specs.Prelude.{◌≡◌, ℕ, ◌+◌, List, option_to_list, Option, Some, None, slice_get}
 use Rattle.vcm_spec.specs.declared.stop.Stop.{Stop}
 use Rattle.vcm_spec.specs.declared.stop.Stop.TheVariants.{Collision}
 use Rattle.vcm_spec.specs.declared.words.MovePhase.{MovePhase}
@@ -9,31 +9,42 @@ use Rattle.vcm_spec.specs.World.{stopped}
 use Rattle.vcm_code.specs.Code.{CodeStatement}
 use Rattle.vcm_code.specs.declared.code.Code.{Code}
 use Rattle.vcm_code.specs.CodeTable.{code_state}
-use Rattle.vcm_machine.specs.Running.{Running, moved}
+use Rattle.vcm_machine.specs.Running.{Running, moved, WantsMemory}
+use Rattle.vcm_steps.specs.declared.fault.Unfinished.{Unfinished}
+use Rattle.vcm_steps.specs.declared.fault.Unfinished.TheVariants.{NoMemory, Memory, Write}
+use Rattle.vcm_backtrace.specs.Sources.{Sourced}
 use Rattle.vcm_way.specs.Steps.{TaskEnds}
 use Rattle.vcm_way.specs.Tasks.{task_of}
 use Rattle.vcm_contacts.specs.declared.contact.Contact.{Contact}
 use Rattle.vcm_contacts.specs.declared.contact.Lead.{Lead}
 use Rattle.vcm_contacts.specs.Leading.{lead}
+use Rattle.vcm_contacts.specs.Noted.{Found, found_after, rounds_passed}
 use Rattle.vcm_contacts.specs.Passing.{led, pass, passed_after}
 
--- behind n steps it is in this state, with these contacts
-pub record HasPassed (part : Workpiece) (c : Code) (n : ℕ) (m : Running) (contacts : List Contact) : Type 0 where
+-- behind n steps it is in this state, with these contacts, and loops have begun these rounds
+pub record HasPassed (s : Option Sourced) (part : Workpiece) (c : Code) (n : ℕ) (m : Running) (found : List Found) (rounds : List ℕ) : Type 0 where
   pub part_is : m.part ≡ part
   pub code_is : m.code ≡ c
   pub state_is : m.state ≡ (passed_after part c n).state
-  pub contacts_are : contacts ≡ (passed_after part c n).contacts
+  pub found_are : found ≡ found_after s part c n
+  pub rounds_are : rounds ≡ rounds_passed part c n
 
--- a contact, if there is one
-abbrev pub listed : Option Contact → List Contact
-listed None = []
-listed (Some contact) = contact ∷ []
+-- one step more behind such a run
+abbrev pub HasGoneOn : Option Sourced → Code → Running → List Found → List ℕ → Running → List Found → List ℕ → Type 0
+HasGoneOn s c m found rounds new more later =
+    (part : Workpiece) (n : ℕ) → HasPassed s part c n m found rounds → HasPassed s part c (n + 1) new more later
+
+-- memory was refused behind so many steps: to its notes, or to a statement that makes an output line
+abbrev pub IsRefusedHere : Running → ℕ → Unfinished → Type 0
+IsRefusedHere m done NoMemory = Unit {0}
+IsRefusedHere m done (Memory d) = (d ≡ done) × WantsMemory m
+IsRefusedHere m done (Write d) = ⊥
 
 -- a step has gone from the first to the second, with this contact or with none
 pub record HasMet (old : Running) (met : Option Contact) (new : Running) : Type 0 where
   pub part_is : new.part ≡ old.part
   pub code_is : new.code ≡ old.code
-  pub passed : pass old.part old.code old.state ≡ record { state = new.state; contacts = listed met }
+  pub passed : pass old.part old.code old.state ≡ record { state = new.state; contacts = option_to_list met }
 
 -- the contact of a statement that is next
 abbrev pub contact_at : Running → MovePhase → Hit → CodeStatement → Contact

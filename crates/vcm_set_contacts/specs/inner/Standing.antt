@@ -1,5 +1,5 @@
 -- A machine that turns its head, behind a contact.
-use Rattle.std.specs.Prelude.{◌≡◌, ℕ, ◌+◌, List, [], ◌∷◌, Option, Some, None}
+use Rattle.std.specs.Prelude.{◌≡◌, ℕ, ◌+◌, List, option_to_list, Option, Some, None}
 use Rattle.vcm_spec.specs.declared.stop.Stop.{Stop}
 use Rattle.vcm_spec.specs.declared.stop.Stop.TheVariants.{Collision}
 use Rattle.vcm_spec.specs.declared.words.MovePhase.{MovePhase}
@@ -17,15 +17,13 @@ use Rattle.vcm_turning.specs.Turning.{put_behind}
 use Rattle.vcm_turning.specs.Machine.{Turner, turned_of, carrier, StandsAt, halted, with_probe, stepped_of}
 use Rattle.vcm_contacts.specs.declared.contact.Contact.{Contact}
 use Rattle.vcm_contacts.specs.declared.contact.Lead.{Lead}
+use Rattle.vcm_backtrace.specs.Sources.{Sourced}
 use Rattle.vcm_contacts.specs.Leading.{lead}
+use Rattle.vcm_contacts.specs.Noted.{Found, rounds_on, found_on}
 use Rattle.vcm_contacts.specs.Passing.{led, pass}
 use Rattle.vcm_set_contacts.specs.declared.found.Lost.{Lost}
+use Rattle.vcm_set_contacts.specs.Noted.{set_rounds, set_found}
 use Rattle.vcm_set_contacts.specs.Passing.{rests, turned_pass, set_passed_after}
-
--- a contact, if there is one
-abbrev pub listed : Option Contact → List Contact
-listed None = []
-listed (Some contact) = contact ∷ []
 
 -- the contact of a statement that is next
 abbrev pub contact_at : Turner → MovePhase → Hit → CodeStatement → Contact
@@ -60,7 +58,7 @@ IsLed old s why met new = (met ≡ None) × (new ≡ halted old s why)
 -- the step of the code has gone from the first to the second, with this contact or with none
 pub record HasMet (old : Turner) (met : Option Contact) (new : Turner) : Type 0 where
   pub new_is : new ≡ moved old new.state
-  pub passed : pass (part_of old) old.code old.state ≡ record { state = new.state; contacts = listed met }
+  pub passed : pass (part_of old) old.code old.state ≡ record { state = new.state; contacts = option_to_list met }
 
 -- and then the chosen probe was put on
 pub record HasStepped (old : Turner) (met : Option Contact) (new : Turner) : Type 0 where
@@ -76,6 +74,13 @@ pub record HasPassedOne (old : Turner) (contacts : List Contact) (new : Turner) 
   pub code_is : new.code ≡ old.code
   pub passed : turned_pass old.part old.probes old.variable old.code (turned_of old) ≡ record { turned = turned_of new; steps = 1; contacts = contacts }
 
+-- the same, where loops had begun these rounds and then those, and this was found
+pub record HasNoted (s : Option Sourced) (old : Turner) (rounds : List ℕ) (found : List Found) (new : Turner) (later : List ℕ) : Type 0 where
+  pub contacts : List Contact
+  pub passed : HasPassedOne old contacts new
+  pub rounds_are : later ≡ rounds_on old.code rounds old.state new.state
+  pub found_are : found ≡ found_on s old.code new.state later contacts
+
 -- the run ends before the next step without a probe, behind so many
 pub record IsLostHere (m : Turner) (done : ℕ) (l : Lost) : Type 0 where
   pub step_is : l.step ≡ done + 1
@@ -87,10 +92,13 @@ IsRefusedHere m done NoMemory = Unit {0}
 IsRefusedHere m done (Memory k) = (k ≡ done) × WantsMemory (carrier m.part m.probes m.code (turned_of m))
 IsRefusedHere m done (Write k) = ⊥
 
--- behind n steps a machine stands here, and has these contacts
-pub record HasSetPassed (part : Workpiece) (ps : List Probe) (variable : ℕ) (c : Code) (n : ℕ) (m : Turner) (contacts : List Contact) : Type 0 where
+-- behind n steps a machine stands here, has these contacts, and loops have begun these rounds
+pub record HasSetPassed (s : Option Sourced) (part : Workpiece) (ps : List Probe) (variable : ℕ) (c : Code) (n : ℕ) (m : Turner) (found : List Found) (rounds : List ℕ) : Type 0 where
   pub part_is : m.part ≡ part
   pub probes_are : m.probes ≡ ps
   pub variable_is : m.variable ≡ variable
   pub code_is : m.code ≡ c
-  pub passed : set_passed_after part ps variable c n ≡ record { turned = turned_of m; steps = n; contacts = contacts }
+  pub turned_is : (set_passed_after part ps variable c n).turned ≡ turned_of m
+  pub steps_are : (set_passed_after part ps variable c n).steps ≡ n
+  pub found_are : found ≡ set_found s part ps variable c n
+  pub rounds_are : rounds ≡ set_rounds part ps variable c n

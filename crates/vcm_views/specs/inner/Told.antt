@@ -10,43 +10,49 @@ use Rattle.vcm_job.specs.declared.fault.Fault.{Fault}
 use Rattle.vcm_job.specs.declared.fault.InputRefusal.{InputRefusal}
 use Rattle.vcm_job.specs.declared.fault.Fault.TheVariants as faults
 use Rattle.vcm_margin.specs.declared.difference.Margin.{Margin}
-use Rattle.vcm_margin.specs.Margin.{IsMargin}
-use Rattle.vcm_margin.specs.Printed.{margin_text}
-use Rattle.vcm_views.specs.Views.{TellsMargin}
+use Rattle.vcm_margin.specs.Backtrace.{margin_backtrace}
+use Rattle.vcm_backtrace.specs.Sources.{Sourced, IsSourced}
+use Rattle.vcm_views.specs.Views.{IsMarginOf, TellsMargin}
 
 -- a margin was written, and nothing else
-pub record IsMarginTold (part : Workpiece) (c : Code) (done : ℕ) (old new : Option (List ℕ)) : Type 0 where
-  pub margin : Margin
-  pub is_margin : IsMargin part c done margin
-  pub written : Appends old new (margin_text c.tables margin)
+pub record IsMarginTold (program : Option (List ℕ)) (part : Workpiece) (c : Code) (done : ℕ) (old new : Option (List ℕ)) : Type 0 where
+  pub text : List ℕ
+  pub told : IsMarginOf program part c done c.tables text
+  pub written : Appends old new text
 
 -- a front of it was, and not all of it
-pub record IsMarginCutOff (part : Workpiece) (c : Code) (done : ℕ) (old new : Option (List ℕ)) : Type 0 where
-  pub margin : Margin
-  pub is_margin : IsMargin part c done margin
-  pub front : AppendsFront old new (margin_text c.tables margin)
+pub record IsMarginCutOff (program : Option (List ℕ)) (part : Workpiece) (c : Code) (done : ℕ) (old new : Option (List ℕ)) : Type 0 where
+  pub text : List ℕ
+  pub told : IsMarginOf program part c done c.tables text
+  pub front : AppendsFront old new text
 
 -- why no margin was told: memory was refused, and nothing was written; or a write failed
-abbrev pub IsMarginNotTold : Workpiece → Code → ℕ → Fault InputRefusal → Option (List ℕ) → Option (List ℕ) → Type 0
-IsMarginNotTold part c done faults.NoMemory old new = Keeps old new
-IsMarginNotTold part c done (faults.Write d) old new = IsMarginCutOff part c done old new
-IsMarginNotTold part c done _ old new = ⊥
+abbrev pub IsMarginNotTold : Option (List ℕ) → Workpiece → Code → ℕ → Fault InputRefusal → Option (List ℕ) → Option (List ℕ) → Type 0
+IsMarginNotTold program part c done faults.NoMemory old new = Keeps old new
+IsMarginNotTold program part c done (faults.Write d) old new = IsMarginCutOff program part c done old new
+IsMarginNotTold program part c done _ old new = ⊥
+
+-- the backtrace of the statement at which a wider tip meets something else, by the source of this program, if there is one
+pub record IsBacktraceTold (program : Option (List ℕ)) (part : Workpiece) (c : Code) (m : Margin) (text : List ℕ) : Type 0 where
+  pub source : Option Sourced
+  pub is_source : IsSourced program source
+  pub text_is : text ≡ margin_backtrace source part c m
 
 -- the margin or the result of a run was written and nothing else, with this exit status
-pub record IsTold (part : Workpiece) (c : Code) (held : Held) (done status : ℕ) (old new : Option (List ℕ)) : Type 0 where
+pub record IsTold (program : Option (List ℕ)) (part : Workpiece) (c : Code) (held : Held) (done status : ℕ) (old new : Option (List ℕ)) : Type 0 where
   pub text : List ℕ
-  pub told : TellsMargin (nat_eq status 0) part c held done text
+  pub told : TellsMargin (nat_eq status 0) program part c held done text
   pub status_is : status ≡ status_of held.state.stop
   pub written : Appends old new text
 
 -- a front of it was, and not all of it
-pub record IsToldInPart (part : Workpiece) (c : Code) (held : Held) (done : ℕ) (old new : Option (List ℕ)) : Type 0 where
+pub record IsToldInPart (program : Option (List ℕ)) (part : Workpiece) (c : Code) (held : Held) (done : ℕ) (old new : Option (List ℕ)) : Type 0 where
   pub text : List ℕ
-  pub told : TellsMargin (nat_eq (status_of held.state.stop) 0) part c held done text
+  pub told : TellsMargin (nat_eq (status_of held.state.stop) 0) program part c held done text
   pub front : AppendsFront old new text
 
 -- why neither was told: memory was refused, and nothing was written; or a write failed
-abbrev pub IsNotTold : Workpiece → Code → Held → ℕ → Fault InputRefusal → Option (List ℕ) → Option (List ℕ) → Type 0
-IsNotTold part c held done faults.NoMemory old new = Keeps old new
-IsNotTold part c held done (faults.Write d) old new = IsToldInPart part c held done old new
-IsNotTold part c held done _ old new = ⊥
+abbrev pub IsNotTold : Option (List ℕ) → Workpiece → Code → Held → ℕ → Fault InputRefusal → Option (List ℕ) → Option (List ℕ) → Type 0
+IsNotTold program part c held done faults.NoMemory old new = Keeps old new
+IsNotTold program part c held done (faults.Write d) old new = IsToldInPart program part c held done old new
+IsNotTold program part c held done _ old new = ⊥

@@ -10,7 +10,7 @@ use Rattle.vcm_cause.specs.declared.watching.Watched.{Watched}
 use Rattle.vcm_cause.specs.Watched.{seen, HasWatched}
 use Rattle.vcm_steps.specs.declared.fault.Unfinished.{Unfinished}
 use Rattle.vcm_steps.specs.declared.fault.Unfinished.TheVariants as faults
-use Rattle.vcm_why.specs.Origins.{Traced}
+use Rattle.vcm_backtrace.specs.Sources.{Sourced}
 use Rattle.vcm_why.specs.Reasons.{why_lines}
 use Rattle.vcm_why.specs.Telling.{IsHaltedAfter}
 
@@ -26,15 +26,15 @@ IsHalted part c n (faults.Memory done) = IsHaltedAfter part c n done
 IsHalted part c n f = ⊥
 
 -- the lines of a run that was watched
-abbrev pub lines_of : List (List ℕ) → Option Traced → Workpiece → Code → Watched → List ℕ
+abbrev pub lines_of : List (List ℕ) → Option Sourced → Workpiece → Code → Watched → List ℕ
 lines_of names t part c w = why_lines names t part c.statements w.world w.next (seen w.progress) w.ran.done
 
 -- they were written
-pub record IsTold (names : List (List ℕ)) (t : Option Traced) (part : Workpiece) (c : Code) (w : Watched) (stop : Option StopPlace) (old new : Option (List ℕ)) : Type 0 where
+pub record IsTold (names : List (List ℕ)) (t : Option Sourced) (part : Workpiece) (c : Code) (w : Watched) (stop : Option StopPlace) (old new : Option (List ℕ)) : Type 0 where
   pub stop_is : stop ≡ w.world.state.stop
   pub written : Appends old new (lines_of names t part c w)
 
 -- a write failed
-abbrev pub IsNotTold : List (List ℕ) → Option Traced → Workpiece → Code → Watched → Unfinished → Option (List ℕ) → Option (List ℕ) → Type 0
+abbrev pub IsNotTold : List (List ℕ) → Option Sourced → Workpiece → Code → Watched → Unfinished → Option (List ℕ) → Option (List ℕ) → Type 0
 IsNotTold names t part c w (faults.Write done) old new = AppendsFront old new (lines_of names t part c w)
 IsNotTold names t part c w f old new = ⊥

@@ -28,7 +28,7 @@ returns-in-Lost g c =
     let held = held_is at.world f.code.tables (behind f at.end.done).state.world is.tables is.state in
     let rounds = ap (λ (b : Behind). b.rounds) c.requires.known in
     let told = rw c.probes.ensures.probes at c.write_lost.ensures in
-    rw c.in-Lost.is (subst (λ ls. Wrote (g.W.Write.contents c.args.writer.now) (g.W.Write.contents c.write_lost.new.writer) ls c.write_lost.result) (lost_is c.args.names.now c.args.origin.now f at.end at.next (behind f at.end.done).state.next l at.world
+    rw c.in-Lost.is (subst (λ ls. Wrote (g.W.Write.contents c.args.writer.now) (g.W.Write.contents c.write_lost.new.writer) ls c.write_lost.result) (lost_is c.args.names.now c.args.source.now f at.end at.next (behind f at.end.done).state.next l at.world
     c.args.progress.now.rounds at.on held rounds is.next is.on)
-    (subst (λ (k : Fit). Wrote (g.W.Write.contents c.args.writer.now) (g.W.Write.contents c.write_lost.new.writer) (no_probe_line l (at.end.done + 1) ++ (where_lines c.args.origin.now k.code.statements at.world c.args.progress.now.rounds at.next l.line
+    (subst (λ (k : Fit). Wrote (g.W.Write.contents c.args.writer.now) (g.W.Write.contents c.write_lost.new.writer) (no_probe_line l (at.end.done + 1) ++ (where_lines c.args.source.now k.code.statements at.world c.args.progress.now.rounds at.next l.line
     ++ wanting_line l (probe_on k.probes at.on))) c.write_lost.result) c.fitted.view_is told))

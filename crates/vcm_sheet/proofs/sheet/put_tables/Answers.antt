@@ -9,7 +9,8 @@ pub returns : goal.returns
 returns c =
     let f = filing c.args.sheet.now in
     let r = c.put_blocks.result in
-    let points = points_table f.held.tables.features f.readings c.args.points.now in
-    let blocks = blocks_table f.block_names in
-    adds_last r (legend c.args.used (has_origin c.args.ticks.now)) (points ++ blocks) _ _ _ (rw c.has_origin.ensures at c.in_ok-at.ensures)
-    (adds_last r points blocks _ _ _ (rw (c.features-features.ensures, c.tables.ensures) at c.in_ok-at-2.ensures) c.put_blocks.ensures)
+    let room = c.args.sizes.room in
+    let points = points_table f.held.tables.features f.readings room c.args.points.now in
+    let blocks = blocks_table room.names f.block_names in
+    adds_last r (legend c.args.used (has_origin c.args.ticks.now)) (points ++ blocks) _ _ _ (rw c.has_origin.ensures at c.in_ok-below.ensures)
+    (adds_last r points blocks _ _ _ (rw (c.features-features.ensures, c.tables.ensures) at c.in_ok-at.ensures) c.put_blocks.ensures)

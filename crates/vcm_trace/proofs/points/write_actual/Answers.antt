@@ -14,4 +14,4 @@ returns-in_err-write_direction g c =
     rw p.1 (front_then _ _ _ _ _ _ refl c.in_ok-write_place.ensures (front_first _ _ _ _ _ refl c.in_err-write_direction.ensures))
 
 pub returns : goal.returns
-returns g c = wrote_then _ _ _ _ _ _ _ refl c.in_ok-write_place.ensures (wrote_then _ _ _ _ _ _ _ refl c.in_ok-write_direction.ensures c.write_deviation.ensures)
+returns g c = wrote_then _ _ _ _ _ _ _ refl c.in_ok-write_place.ensures (wrote_then _ _ _ _ _ _ _ refl c.in_ok-write_direction.ensures c.write_off.ensures)

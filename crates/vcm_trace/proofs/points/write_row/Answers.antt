@@ -9,4 +9,4 @@ returns-in_err-write_measured g c =
     rw p.1 (front_first _ _ _ _ _ refl c.in_err-write_measured.ensures)
 
 pub returns : goal.returns
-returns g c = wrote_then _ _ _ _ _ _ _ refl c.in_ok-write_measured.ensures c.write_end.ensures
+returns g c = wrote_then _ _ _ _ _ _ _ refl c.in_ok-write_measured.ensures c.write_more.ensures

@@ -1,0 +1,6 @@
+use Rattle.std.proofs.Common.{refl}
+use Rattle.vcm_num.proofs.KnownWrites.{wrote_then}
+use Rattle.vcm_backtrace.proofs.telling.write_sourced.Goals as goal
+
+pub returns : goal.returns
+returns g c = wrote_then _ _ _ _ _ _ _ refl c.in_ok-write_calls.ensures c.write_loops.ensures

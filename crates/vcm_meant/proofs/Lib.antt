@@ -1,0 +1,5 @@
+mod Walks
+mod Seeing
+mod Noting
+mod Ordered
+mod Once

@@ -1,0 +1,7 @@
+pub mod Measuring
+pub mod Seen
+pub mod Noted
+pub mod Meant
+pub mod Laws
+pub mod Samples
+pub mod inner

@@ -1,0 +1,2 @@
+-- What only private contracts and proofs of this crate speak of.
+pub mod Kept

@@ -1,4 +1,0 @@
-use Rattle.vcm_why.proofs.loops.write_if_round.Goals as goal
-
-pub returns-in-Do : goal.returns-in-Do
-returns-in-Do g c = rw c.in-Do.is c.write_open.ensures

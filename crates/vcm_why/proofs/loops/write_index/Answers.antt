@@ -1,6 +1,0 @@
-use Rattle.std.proofs.Common.{refl}
-use Rattle.vcm_num.proofs.KnownWrites.{wrote_then}
-use Rattle.vcm_why.proofs.loops.write_index.Goals as goal
-
-pub returns : goal.returns
-returns g c = wrote_then _ _ _ _ _ _ _ refl c.in_ok-write_value.ensures c.write_all.ensures
