@@ -18,14 +18,16 @@ private contracts and proofs name stands in folders `specs/inner/`. One thing th
 `ghost view`, a line of the type's own file in `src/`) may be such a definition, as `source_of` of an `Expr`, `tree_of` of a `Typed` and `turn_of`
 of a `Turn`; of an expression and a typed one a public reader shows what they hold (`Expr::pieces`, `to_postfix`). Worked examples are theorems, computed by the checker.
 
-What is trusted besides definitions, the README says; what the page `docs/vcm.html` rests on in place of the native program's C library and processor, `docs/BROWSER.md`.
+What is trusted besides definitions, `PROVED.md` says; what the page `docs/vcm.html` rests on in place of the native program's C library and processor, `docs/BROWSER.md`.
 
 The last column says what a file is part of. *The theorem*: of what it means that a run of a program's text shows what the statement table says (`IsSummary`); which commands rest on
 it besides isn't told. Else the commands whose promises speak of it, by their contracts or by way of other definitions. *Laws* are statements that are proved of these definitions,
 *examples* are computed ones: no command rests on either. *Calls*: no promise of a command comes to it in this way; contracts of public calls between crates do, or views of types.
 The column is made from the `use` lines of whole files, so it names a command rather too often; views of types (above) aren't followed.
 
-`tools/trusted.py` writes this list from the first sentence of each file, and follows what definitions use.
+`tools/trusted.py` writes this list from the first sentence of each file, and follows what definitions use. It stops where a file of the list names an inner definition in its `use` lines; no theorem says that the list is whole.
+
+`check --all` stands for the faults of lines and statements and for what a refusal is about, `adapt` for the adapted text. `survey` isn't there: what it tells has no contract.
 """
 
 # Where each command's promise is said: contracts (`src/`) and definitions (`specs/`), as files or whole folders.
@@ -47,7 +49,8 @@ PROMISES = {
     "contacts": ["vcm_contacts/src"],
     "part": ["vcm_keys/src"],
     "probe": ["vcm_hardware/src"],
-    "survey": ["vcm_survey/src", "vcm_adapt/src", "vcm_classes/src", "vcm_sentences/src", "vcm_standard/src"],
+    "check --all": ["vcm_survey/src/faults.rt", "vcm_sentences/src/sentences.rt", "vcm_diagnosis/src"],
+    "adapt": ["vcm_survey/src/adapting.rt", "vcm_adapt/src", "vcm_classes/src"],
     "values": ["vcm_values/src"],
     "place": ["vcm_place/src", "vcm_summary/src"],
     "judge": ["vcm_judge/src", "vcm_summary/src"],

@@ -1,7 +1,7 @@
 //! What a refusal of a program is about, told below it.
 
 use crate::printing::{DASH, bytes_of, fails};
-use crate::talking::{Voice, fails_in};
+use crate::talking::{Voice, fails_in, fails_in_view};
 use std::alloc::Global;
 use std::rt::Files;
 use vcm_diagnosis::refusal_words;
@@ -73,7 +73,7 @@ fn tell_words<R: Eprint + AllocGlobal>(
     }
 }
 
-/// Tells, at a terminal and with `--talk`, what a refusal of a file's program is about, and gives this exit status. The file is read again for
+/// Tells, where second lines are told, what a refusal of a file's program is about, and gives this exit status. The file is read again for
 /// that; where it can't be, or memory runs out, that is told and its exit status given.
 pub fn tell_about<R: Files + Input + Eprint + AllocGlobal>(
     rt: &R,
@@ -82,7 +82,7 @@ pub fn tell_about<R: Files + Input + Eprint + AllocGlobal>(
     name: &str,
     status: u8,
 ) -> u8 {
-    if !voice.is_summary || name == DASH || fault_in(message).is_none() {
+    if !voice.tells_more || name == DASH || fault_in(message).is_none() {
         return status;
     }
     match bytes_of(rt, name) {
@@ -100,4 +100,16 @@ pub(crate) fn fails_about<R: Files + Input + Eprint + AllocGlobal>(
 ) -> u8 {
     let status = fails_in(rt, voice, message, name);
     tell_about(rt, voice, message, name, status)
+}
+
+/// Tells why a view of a run isn't shown, with the input's name if that is refused and with what it is about, and gives the exit status; nothing where standard output is
+/// closed.
+pub fn view_fails<R: Files + Input + Eprint + AllocGlobal>(
+    rt: &R,
+    voice: Voice,
+    message: Message<'_>,
+    input: &str,
+) -> u8 {
+    let status = fails_in_view(rt, voice, message, input);
+    tell_about(rt, voice, message, input, status)
 }

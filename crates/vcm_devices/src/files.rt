@@ -1,7 +1,9 @@
 //! What is made of one file alone: whether its program is accepted, its listing, its image.
 
 use crate::about::tell_about;
-use crate::printing::{DASH, STANDARD_INPUT, fails, output, status_of_notices, written};
+use crate::printing::{
+    DASH, STANDARD_INPUT, fails, is_one_file, output, status_of_notices, written,
+};
 use crate::request::Request;
 use crate::talking::{Voice, tell_notices, tell_of_whole};
 use std::alloc::Global;
@@ -177,7 +179,7 @@ fn make_from<R: Files + Input + Eprint + AllocGlobal, I: Read>(
     }
 }
 
-// Writes the image of a file, or of standard input, to another file, and gives the exit status. Nothing is read or written where both have one name.
+// Writes the image of a file, or of standard input, to another file, and gives the exit status. Nothing is read or written where both are one file.
 fn make_image<R: Files + Input + Eprint + AllocGlobal>(
     rt: &R,
     voice: Voice,
@@ -188,7 +190,7 @@ fn make_image<R: Files + Input + Eprint + AllocGlobal>(
     if name == DASH {
         return make_from(rt, voice, source, &mut rt.reader(), STANDARD_INPUT, image);
     }
-    if name == image {
+    if is_one_file(rt, name, image) {
         return fails(rt, ONE_FILE);
     }
     match std::fs::open(rt, name) {

@@ -19,7 +19,7 @@ mod talking;
 mod values;
 mod view;
 
-pub use about::{about_of, tell_about};
+pub use about::{about_of, view_fails};
 pub use closing::fails_unless_closed;
 pub use debugging::{debug_file, debug_text, unread_input};
 pub use files::{asm_file, build_file, check_file, list_file};
@@ -29,10 +29,10 @@ pub use pages::{
 };
 pub use parts::{PartFile, moved_part, part_file_given, part_file_of, part_of, show_part};
 pub use printing::{
-    DASH, Outlet, Output, STANDARD_INPUT, bytes_of, fails, output, print_bytes, status_after,
-    written,
+    DASH, Outlet, Output, STANDARD_INPUT, bytes_of, fails, is_one_file, output, print_bytes,
+    status_after, written,
 };
-pub use remarking::remarks_text;
+pub use remarking::{remark_lines, remarks_text};
 pub use request::{Request, matches_of, steps_of};
 pub use sheets::{
     LINES, PAPERS, base_name, is_sheet, lines_given, lines_of, paper_given, show_picture, title_of,

@@ -3,6 +3,7 @@
 use crate::talking::{Voice, tell_notices};
 use std::alloc::Global;
 use std::io::{self, BufWriter, ErrorKind, Printer, Read, Write};
+use std::os::unix::fs::MetadataExt;
 use std::rt::Files;
 use vcm_job::{CheckFault, Done, read_all};
 use vcm_messages::{Message, message_of, status_of};
@@ -128,6 +129,17 @@ pub fn bytes_of<'a, R: Files + Input + AllocGlobal>(
         Ok(mut file) => read_bytes(rt.alloc(), &mut file, name),
         Err(_) => Err(Message::Read { name }),
     }
+}
+
+/// Whether a file that is to be written is one that is read, by the same name or by another one: another spelling or a link.
+pub fn is_one_file<R: Files>(rt: &R, read: &str, written: &str) -> bool {
+    if read == written {
+        return true;
+    }
+    let (Ok(one), Ok(other)) = (std::fs::metadata(rt, read), std::fs::metadata(rt, written)) else {
+        return false;
+    };
+    one.ino() != 0 && one.ino() == other.ino() && one.dev() == other.dev()
 }
 
 // The bytes that a reader of this name gives.

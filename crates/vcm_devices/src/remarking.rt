@@ -5,7 +5,7 @@ use std::alloc::{AllocError, Global};
 use std::fmt::Write as _;
 use vcm_items::Tables;
 use vcm_job::Given;
-use vcm_loader::load;
+use vcm_loader::{Loaded, load};
 use vcm_meant::{Remark, What, meant};
 use vcm_motion::AnyPart;
 use vcm_num::{Axis, NoMemory, thousandths_text};
@@ -102,7 +102,7 @@ fn put_what(text: &mut String, tables: &Tables, what: What) -> Result<(), AllocE
 }
 
 // Remarks, a line for each.
-fn lines_of(alloc: Global, tables: &Tables, remarks: &[Remark]) -> Result<String, AllocError> {
+fn put_lines(alloc: Global, tables: &Tables, remarks: &[Remark]) -> Result<String, AllocError> {
     let mut text = String::new(alloc);
     for remark in remarks {
         let line = remark.line;
@@ -111,6 +111,21 @@ fn lines_of(alloc: Global, tables: &Tables, remarks: &[Remark]) -> Result<String
         text.push_str("\n")?;
     }
     Ok(text)
+}
+
+/// Remarks of a run of a loaded code, a line for each.
+///
+/// Errors: want of memory.
+pub fn remark_lines(
+    alloc: Global,
+    loaded: &Loaded<'_>,
+    remarks: &[Remark],
+) -> Result<String, NoMemory> {
+    let tables = loaded.tables(alloc)?;
+    match put_lines(alloc, &tables, remarks) {
+        Ok(text) => Ok(text),
+        Err(_) => Err(NoMemory),
+    }
 }
 
 /// What is remarked of a run of what was given, a line for each remark; nothing where no notice is told.
@@ -131,9 +146,5 @@ pub fn remarks_text(
     };
     let workpiece = AnyPart::of(alloc, part)?;
     let remarks = meant(alloc, &loaded, &workpiece, part, steps)?;
-    let tables = loaded.tables(alloc)?;
-    match lines_of(alloc, &tables, remarks.as_slice()) {
-        Ok(text) => Ok(text),
-        Err(_) => Err(NoMemory),
-    }
+    remark_lines(alloc, &loaded, remarks.as_slice())
 }

@@ -1,11 +1,11 @@
 //! What is shown of a run: its views, on the standard devices.
 
-use crate::about::tell_about;
+use crate::about::view_fails;
 use crate::parts::{named_part_given, part_given};
 use crate::printing::{DASH, STANDARD_INPUT, bytes_of, fails, output, status_after, written};
 use crate::remarking::remarks_text;
 use crate::request::Request;
-use crate::talking::{Told, Voice, alone, fails_in, fails_in_view, fails_twice, tell_notices};
+use crate::talking::{Told, Voice, alone, fails_in, fails_twice, tell_notices};
 use crate::view::{View, write_view};
 use std::alloc::Global;
 use std::io::Read;
@@ -99,10 +99,7 @@ pub(crate) fn status_shown<R: Files + Input + Eprint + AllocGlobal>(
 ) -> u8 {
     match shown {
         Ok(done) => status_after(rt, voice, Ok(done)),
-        Err(message) => {
-            let status = fails_in_view(rt, voice, message, input);
-            tell_about(rt, voice, message, input, status)
-        }
+        Err(message) => view_fails(rt, voice, message, input),
     }
 }
 
@@ -246,12 +243,12 @@ pub fn show_points<R: Files + Input + Print + Eprint + AllocGlobal>(
     let input = request.input();
     let given = match given_input(rt, input) {
         Ok(given) => given,
-        Err(message) => return fails_in_view(rt, voice, message, input),
+        Err(message) => return view_fails(rt, voice, message, input),
     };
     let is_machine = request.has(Choice::Machine);
     match print_points(rt, &Points { is_machine }, &given, &part, steps, input) {
         Ok(status) => tell_behind(rt, voice, &given, &part, steps, status),
-        Err(message) => fails_in_view(rt, voice, message, input),
+        Err(message) => view_fails(rt, voice, message, input),
     }
 }
 

@@ -32,6 +32,13 @@ impl Entry {
         }
     }
 
+    // Whether a word is a name of this one, whatever its case.
+    pub(crate) fn is_of(&self, word: &[u8]) -> bool {
+        self.keys
+            .iter()
+            .any(|key| word.eq_ignore_ascii_case(key.as_bytes()))
+    }
+
     // Whether words name this one.
     pub(crate) fn explains(&self, words: &[u8]) -> bool {
         self.keys.iter().any(|key| begins(words, key.as_bytes()))

@@ -25,13 +25,14 @@ of macros once for each CALL. Lines without effect, declarations and CALLs don't
     Entry {
         keys: &["in"],
         text: "in
-A second line, below a refusal: `in part.toml` is the file that was refused. In `vcm why`,
-`contacts`, `clearance` and `margin`, `in M(GRID) from line 8: ..` is a CALL that led to the
-statement, the innermost first.",
+A second line, below a refusal: `in part.toml` is the file that was refused. Where it
+`looks like a program`, the program stands where a part file is wanted. In `vcm why`,
+`contacts`, `clearance` and `margin`, `in M(GRID) from line 8: ..` is a CALL that led to
+the statement, the innermost first.",
     },
 ];
 
-const WHY: [Entry; 11] = [
+const WHY: [Entry; 12] = [
     Entry {
         keys: &["past a limit"],
         text: "past a limit
@@ -99,6 +100,13 @@ the first being 1, and the value of the loop's variable there. The innermost loo
 first.",
     },
     Entry {
+        keys: &["the source line"],
+        text: "the source line, the calls and the loops
+A line of `vcm why`: an image has no text. With `--whole` a text that isn't run as it is
+written is run as one; the line of the stop has its number all the same.
+Do: give the program in place of the image; of a producer's text look at that line.",
+    },
+    Entry {
         keys: &["line"],
         text: "line
 A line of `vcm why`: the source line of the statement that stopped, as it is written. In
@@ -131,7 +139,7 @@ has changed after the step that changed it.",
             "fit as they are",
             "have no effect",
             "left out",
-            "put otherwise by vcm adapt",
+            "put otherwise",
             "not tried",
         ],
         text: "not tried

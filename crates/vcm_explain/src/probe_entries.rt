@@ -189,9 +189,10 @@ is that of the old one, the second that of the new one. The next way begins ther
     Entry {
         keys: &["probe", "not used"],
         text: "probe
-A line of `vcm clearance` with a file of several probes: how many ways the probe went, and
-below it what its boxes meet. `not used` says that it went none, so nothing of it was
-tried.",
+A line of `vcm clearance` with a file of several probes: how many ways the probe went,
+and below it what its boxes meet. `not used` says that it went none, so nothing of it
+was tried. In the debugger it is the probe that is on, with its number; `probe none`
+before one is put on.",
     },
     Entry {
         keys: &["swing", "changes"],

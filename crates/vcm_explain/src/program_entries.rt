@@ -282,7 +282,8 @@ gives: ok 2 statements",
         keys: &["E20", "TooLong"],
         text: "E20 TooLong
 With all macros expanded the program has more than 20,000 statements, DECL lines and
-calls, or calls stand more than 16 deep in each other.
+calls, or calls stand more than 16 deep in each other. With `--whole` it is told how
+many statements the text is put as, several for each of its own.
 Do: put calls that repeat into a DO. A loop is counted once, however often it runs.",
     },
     Entry {

@@ -104,7 +104,7 @@ gives: stop UNDEFINED FA(P1) at 1 line 4",
     },
 ];
 
-const NOTICE: [Entry; 5] = [
+const NOTICE: [Entry; 6] = [
     Entry {
         keys: &["BADSETTING"],
         text: "BADSETTING
@@ -135,6 +135,13 @@ With a file of several probes: the head turns in the run, and the tip stands whe
 it, but shaft, head and swing aren't tried by this command. `vcm clearance` tries them.",
     },
     Entry {
+        keys: &["notices"],
+        text: "notices
+All notices in one line, at a terminal and with `--talk`: so many statements, on these
+lines, are taken and do nothing here. Through a pipe, without `--talk`, each has a line
+of its own.",
+    },
+    Entry {
         keys: &["notice"],
         text: "notice
 `notice line 3: MODE has no effect`: the statement is taken and does nothing here. These
@@ -153,8 +160,12 @@ const DEVICE: [Entry; 5] = [
         keys: &["no memory"],
         text: "no memory
 Memory ran out. `no memory after N steps` is told in a run, `no memory` elsewhere.
-Status 5. Standard output stays empty, but for the lines of a trace and the replies of a
-session that were written before.",
+Status 5. Standard output is empty, but for what was written before. That may be lines
+of a trace, of points, contacts or a clearance, a front of a page, or the replies of a
+session. Of several programs the lines of those before stand there. Of `vcm survey`,
+`vcm adapt` and a job at a terminal it may be all. Of an image no byte is written.
+Do: close other programs, or try on a larger machine. A session goes on: it stands after
+the steps that were done, and the command may be given again.",
     },
     Entry {
         keys: &["cannot read"],

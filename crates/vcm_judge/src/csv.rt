@@ -7,7 +7,7 @@ use std::fmt::Write as _;
 
 /// The first line.
 pub fn csv_heading() -> &'static str {
-    "program,part,status,words,statements,notices,steps,points,deviation,feature,line,margin,clearance,met,not tried\n"
+    "program,part,status,words,statements,notices,steps,points,deviation,feature,line,margin,clearance,met,not tried,remarks\n"
 }
 
 // Whether a field is quoted.
@@ -74,7 +74,8 @@ fn put_ran(text: &mut String, ran: &Ran) -> Result<(), AllocError> {
     text.push(',')?;
     put_clearing(text, ran.clearing)?;
     let untried = ran.untried;
-    writeln!(text, "{untried}")
+    let remarks = ran.remarks;
+    writeln!(text, "{untried},{remarks}")
 }
 
 // Adds the row of a verdict.
@@ -93,12 +94,12 @@ fn put_row(text: &mut String, verdict: &Verdict) -> Result<(), AllocError> {
     write!(text, ",{notices},")?;
     match &verdict.ran {
         Some(ran) => put_ran(text, ran),
-        None => text.push_str(",,,,,,,,\n"),
+        None => text.push_str(",,,,,,,,,\n"),
     }
 }
 
 /// The row of a verdict: program, part file, exit status, its words, statements, notices, steps, points, the greatest deviation in millimetres with its feature and
-/// line, margin and clearance in millimetres, how many boxes are met, and how many motions weren't tried. What isn't there is empty.
+/// line, margin and clearance in millimetres, how many boxes are met, how many motions weren't tried, and how many remarks there are. What isn't there is empty.
 ///
 /// # Errors
 ///

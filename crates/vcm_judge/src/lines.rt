@@ -52,6 +52,10 @@ fn put_ran(text: &mut String, ran: &Ran) -> Result<(), AllocError> {
         let untried = ran.untried;
         write!(text, ", not tried {untried}")?;
     }
+    if ran.remarks != 0 {
+        text.push_str(", ")?;
+        put_count(text, ran.remarks, "remark")?;
+    }
     Ok(())
 }
 

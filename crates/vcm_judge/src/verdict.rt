@@ -28,6 +28,7 @@ pub struct Ran {
     pub margin: Option<u32>,
     pub clearing: Option<Clearing>,
     pub untried: u64,
+    pub remarks: u64,
 }
 
 /// What is said of a program: its name and that of its part file, how it fared and by what words, how many statements it has and how many notices there are of it, what

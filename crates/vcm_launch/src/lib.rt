@@ -7,6 +7,6 @@ mod opening;
 mod serving;
 mod whole;
 
-pub use files::part_of;
+pub use files::{PartFile, Untaken, part_of};
 pub use opening::{Opened, Opens, Unopened};
 pub use serving::serve_dap;

@@ -2,7 +2,7 @@
 
 ghost use Rattle.std.specs.Prelude.{◌<◌, ◌≤◌, ◌+◌, ◌^◌};
 
-use crate::files::part_of;
+use crate::files::{PartFile, Untaken, part_of};
 use crate::launching::{Asked, launch_of, program_of, settings_of};
 use crate::opening::{Opened, Opens, Unopened};
 use crate::whole::{Unput, words_of};
@@ -22,7 +22,10 @@ use vcm_program::Noticed;
 use vcm_wire::{FrameFault, Request, Unread, read_frame, request_of};
 
 // What is told where the input is no message.
-const BROKEN: Message<'static> = Message::Read {
+const BROKEN: Message<'static> = Message::NoMessage;
+
+// What is told where the input can't be read.
+const UNREAD: Message<'static> = Message::Read {
     name: "standard input",
 };
 
@@ -39,7 +42,8 @@ fn dap_message(fault: DapFault) -> Message<'static> {
 // How it is told that no message was read.
 fn frame_message(fault: FrameFault) -> Message<'static> {
     match fault {
-        FrameFault::Read | FrameFault::NoHead => BROKEN,
+        FrameFault::Read => UNREAD,
+        FrameFault::NoHead => BROKEN,
         FrameFault::TooLong => Message::TooLong,
         FrameFault::NoMemory => Message::NoMemory,
     }
@@ -133,19 +137,39 @@ fn refuse<W: Write>(
     Ok(true)
 }
 
-// What is told of a program behind its launch: its lines that have no effect, and of a producer's text how it is read.
+// What a launch says whose part file isn't taken: both lines. There may be another request.
+fn refuse_part<W: Write>(
+    alloc: Global,
+    talk: &mut Talk<W>,
+    request: &Request<'_, '_>,
+    untaken: &Untaken<'_>,
+) -> Result<bool, Message<'static>> {
+    let Some(second) = &untaken.second else {
+        return refuse(alloc, talk, request, untaken.message);
+    };
+    let mut text = String::new(alloc);
+    let message = untaken.message;
+    let Ok(()) = write!(text, "{message}\n{second}") else {
+        return Err(Message::NoMemory);
+    };
+    talk.refuse(request, &text).map_err(dap_message)?;
+    Ok(true)
+}
+
+// What is told of a program behind its launch: the keys of the part file that nothing uses, its lines that have no effect, and of a producer's text how it is read.
 #[derive(Clone, Copy)]
 struct Behind<'a> {
+    keys: &'a [u8],
     notices: &'a [Noticed],
     reading: &'a [u8],
 }
 
-// Tells how a producer's text is read, if there is something to tell.
-fn tell_reading<W: Write>(talk: &mut Talk<W>, reading: &[u8]) -> Result<(), Message<'static>> {
-    if reading.is_empty() {
+// Tells lines, if there are any.
+fn tell_lines<W: Write>(talk: &mut Talk<W>, lines: &[u8]) -> Result<(), Message<'static>> {
+    if lines.is_empty() {
         return Ok(());
     }
-    talk.tell_text("stderr", reading).map_err(dap_message)
+    talk.tell_text("stderr", lines).map_err(dap_message)
 }
 
 // Answers that a program is launched, and what comes behind, up to the end.
@@ -160,8 +184,9 @@ fn serve_session<R: Read, W: Write>(
 {
     let alloc = talk.alloc();
     talk.done(request).map_err(dap_message)?;
+    tell_lines(talk, behind.keys)?;
     tell_notices(alloc, talk, adapter, behind.notices)?;
-    tell_reading(talk, behind.reading)?;
+    tell_lines(talk, behind.reading)?;
     adapter.ready(talk).map_err(dap_message)?;
     serve_adapter(alloc, talk, adapter, input)
 }
@@ -194,7 +219,7 @@ fn open_program<R: Read, W: Write>(
     request: &Request<'_, '_>,
     asked: Asked<'_>,
     program: &Given,
-    part: &PartData,
+    file: &PartFile,
     input: &mut R,
 ) -> Result<bool, Message<'static>> {
     let alloc = talk.alloc();
@@ -202,12 +227,14 @@ fn open_program<R: Read, W: Write>(
         Ok(loaded) => loaded,
         Err(fault) => return refuse(alloc, talk, request, fault.told()),
     };
-    let settings = settings_of(asked, part.bounds().tip, program.text.is_some(), None);
+    let tip = file.part.bounds().tip;
+    let settings = settings_of(asked, tip, program.text.is_some(), None);
     let behind = Behind {
+        keys: file.notices.as_bytes(),
         notices: program.notices.as_slice(),
         reading: &[],
     };
-    open_session(talk, request, settings, &loaded, part, behind, input)
+    open_session(talk, request, settings, &loaded, &file.part, behind, input)
 }
 
 // Opens a session on what a producer's text is put as. Tells whether there may be another request.
@@ -216,7 +243,7 @@ fn open_text<R: Read, W: Write>(
     request: &Request<'_, '_>,
     asked: Asked<'_>,
     opened: &Opened,
-    part: &PartData,
+    file: &PartFile,
     input: &mut R,
 ) -> Result<bool, Message<'static>> {
     let alloc = talk.alloc();
@@ -230,12 +257,13 @@ fn open_text<R: Read, W: Write>(
         told: opened.told.as_slice(),
         status: opened.status,
     };
-    let settings = settings_of(asked, part.bounds().tip, true, Some(whole));
+    let settings = settings_of(asked, file.part.bounds().tip, true, Some(whole));
     let behind = Behind {
+        keys: file.notices.as_bytes(),
         notices: opened.given.notices.as_slice(),
         reading: opened.notices.as_slice(),
     };
-    open_session(talk, request, settings, &loaded, part, behind, input)
+    open_session(talk, request, settings, &loaded, &file.part, behind, input)
 }
 
 // Refuses a launch, and says why. There may be another request.
@@ -254,7 +282,7 @@ fn launch_whole<O: Opens, R: Read, W: Write>(
     talk: &mut Talk<W>,
     request: &Request<'_, '_>,
     asked: Asked<'_>,
-    part: &PartData,
+    file: &PartFile,
     input: &mut R,
 ) -> Result<bool, Message<'static>> {
     let alloc = talk.alloc();
@@ -263,8 +291,8 @@ fn launch_whole<O: Opens, R: Read, W: Write>(
         Err(Unput::Refused(why)) => return refuse_words(talk, request, why),
         Err(Unput::NoMemory) => return refuse(alloc, talk, request, Message::NoMemory),
     };
-    match opener.open(&words, part, asked.steps()) {
-        Ok(opened) => open_text(talk, request, asked, &opened, part, input),
+    match opener.open(&words, &file.part, asked.steps()) {
+        Ok(opened) => open_text(talk, request, asked, &opened, file, input),
         Err(Unopened::Refused(why)) => refuse_words(talk, request, &why),
         Err(Unopened::NoMemory) => refuse(alloc, talk, request, Message::NoMemory),
     }
@@ -282,15 +310,15 @@ fn launch<Rt: Files + AllocGlobal, O: Opens, R: Read, W: Write>(
         Ok(asked) => asked,
         Err(why) => return refuse_words(talk, request, why),
     };
-    let part = match part_of(rt, asked.part) {
-        Ok(part) => part,
-        Err(message) => return refuse(rt.alloc(), talk, request, message),
+    let file = match part_of(rt, asked.part) {
+        Ok(file) => file,
+        Err(untaken) => return refuse_part(rt.alloc(), talk, request, &untaken),
     };
     if asked.is_whole {
-        return launch_whole(opener, talk, request, asked, &part, input);
+        return launch_whole(opener, talk, request, asked, &file, input);
     }
     match program_of(rt, asked.program) {
-        Ok(program) => open_program(talk, request, asked, &program, &part, input),
+        Ok(program) => open_program(talk, request, asked, &program, &file, input),
         Err(message) => refuse(rt.alloc(), talk, request, message),
     }
 }

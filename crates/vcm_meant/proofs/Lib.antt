@@ -1,5 +1,6 @@
 mod Walks
 mod Seeing
 mod Noting
+mod Turned
 mod Ordered
 mod Once

@@ -27,15 +27,15 @@ use vcm_way::{Before, look};
 
 // What is known so far, and the frames in which features were declared.
 #[derive(Drop)]
-struct Progress {
-    noted: Noted,
-    frames: Frames,
+pub(crate) struct Progress {
+    pub(crate) noted: Noted,
+    pub(crate) frames: Frames,
 }
 
 // Notes what is to be remarked beside a workpiece.
 #[derive(Clone, Copy)]
-struct Noting<'a> {
-    blocks: &'a PartData,
+pub(crate) struct Noting<'a> {
+    pub(crate) blocks: &'a PartData,
 }
 
 impl Follows<Progress> for Noting<'_> {
@@ -83,12 +83,12 @@ impl Follows<Progress> for Noting<'_> {
     }
 }
 
-// What is known before the first step of a machine.
-fn opening<P: Part>(alloc: Global, machine: &Machine<'_, P>) -> Result<Progress, NoMemory>
-    ensures noted { IfOk result (λ p. noted_of p.noted ≡ nothing_noted machine.now.code.tables) }
-    ensures frames { IfOk result (λ p. p.frames ≡ no_frames machine.now.code.tables) }
+/// What is known before the first step from this state.
+pub(crate) fn opening(alloc: Global, world: &World) -> Result<Progress, NoMemory>
+    ensures noted { IfOk result (λ p. noted_of p.noted ≡ nothing_noted world.now.tables) }
+    ensures frames { IfOk result (λ p. p.frames ≡ no_frames world.now.tables) }
 {
-    let count = machine.world().tables().features().len();
+    let count = world.tables().features().len();
     let noted = nothing_noted(alloc, count)?;
     let frames = no_frames(alloc, count)?;
     Ok(Progress { noted, frames })
@@ -109,7 +109,7 @@ pub fn meant<P: Part>(
 {
     loaded.known_valid();
     let mut machine = Machine::new(alloc, loaded, part)?;
-    let mut progress = opening(alloc, &machine)?;
+    let mut progress = opening(alloc, machine.world())?;
     let noting = Noting { blocks };
     let ran = follow_run(alloc, loaded, &mut machine, steps, &noting, &mut progress)?;
     match ran.end {

@@ -9,6 +9,8 @@ mod noted;
 mod ordering;
 mod remark;
 mod seen;
+mod turning;
 
 pub use following::meant;
 pub use remark::{Remark, What};
+pub use turning::meant_turned;

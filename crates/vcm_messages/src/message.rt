@@ -65,6 +65,9 @@ pub enum Message<'a> {
     Read {
         name: &'a str,
     },
+    /// What an editor sends is no message of its protocol.
+    #[error("standard input is no message of the debug adapter protocol")]
+    NoMessage,
     #[error("cannot write {name}")]
     Write {
         name: &'a str,
@@ -345,7 +348,7 @@ pub fn status_of(message: Message<'_>) -> u8 {
         Message::Part { .. } | Message::Image { .. } => 1,
         Message::Usage | Message::Steps | Message::Option { .. } | Message::Unknown { .. } => 2,
         Message::NoMemory | Message::Halted { .. } => 5,
-        Message::Read { .. } | Message::TooLong => 6,
+        Message::Read { .. } | Message::NoMessage | Message::TooLong => 6,
         Message::Write { .. } | Message::Closed => 6,
     }
 }

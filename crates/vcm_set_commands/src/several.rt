@@ -8,15 +8,16 @@ use std::rt::Files;
 use vcm_boxes::{Boxes, read_boxes};
 use vcm_devices::{
     NamedSetting, Request, Unread, View, Voice, bytes_of, fails, fails_in_view, fails_twice,
-    fails_unless_closed, is_sheet, named_setting_of, print_bytes, show_page_with, status_after,
-    tell_about, tell_unread, unread_input,
+    fails_unless_closed, is_sheet, named_setting_of, print_bytes, remark_lines, show_page_with,
+    status_after, tell_unread, unread_input, view_fails,
 };
 use vcm_job::{Done, Given, InputRefusal, RunFault, given_of, status_of};
 use vcm_loader::{Loaded, load};
 use vcm_messages::{Message, message_of};
+use vcm_num::NoMemory;
 use vcm_probe_set::{ProbeSet, ProbeSetFault, is_of_several, read_probes, why_unfit};
 use vcm_set_clearance::{SetFault, SetRun, SetText, run_set};
-use vcm_set_views::{Fitted, fit};
+use vcm_set_views::{Fitted, fit, set_meant};
 use vcm_spec::StopPlace;
 use vcm_turning::Ended;
 use vcm_usage::{Choice, Rest, Verb};
@@ -162,6 +163,56 @@ fn print_clearance<R: Print + Eprint + AllocGlobal>(
     }
 }
 
+// What is remarked of the measurements of a run whose points are told; nothing where no notice is told.
+fn remarks_told(
+    alloc: Global,
+    voice: Voice,
+    asked: &Asked<'_>,
+    fitted: &Fitted<'_>,
+    loaded: &Loaded<'_>,
+) -> Result<String, NoMemory> {
+    if voice.is_quiet {
+        return Ok(String::new(alloc));
+    }
+    let remarks = set_meant(alloc, fitted, asked.setting.steps)?;
+    remark_lines(alloc, loaded, remarks.as_slice())
+}
+
+// What was printed of a run: the exit status, and what is remarked of its measurements, which is told behind its notices.
+#[derive(Drop)]
+struct Printed {
+    status: u8,
+    remarks: String,
+}
+
+// Prints what a command tells of a run, likewise, and gives what is remarked of it.
+fn print_remarked<R: Print + Eprint + AllocGlobal>(
+    rt: &R,
+    voice: Voice,
+    request: &Request<'_, '_>,
+    asked: &Asked<'_>,
+    fitted: &Fitted<'_>,
+    given: &Given,
+    loaded: &Loaded<'_>,
+) -> Result<Printed, u8> {
+    let status = print_told(rt, request, asked, fitted, given, loaded)?;
+    if request.verb() != Verb::Points {
+        return Ok(unremarked(rt.alloc(), status));
+    }
+    match remarks_told(rt.alloc(), voice, asked, fitted, loaded) {
+        Ok(remarks) => Ok(Printed { status, remarks }),
+        Err(_) => Err(fails(rt, Message::NoMemory)),
+    }
+}
+
+// Nothing is remarked.
+fn unremarked(alloc: Global, status: u8) -> Printed {
+    Printed {
+        status,
+        remarks: String::new(alloc),
+    }
+}
+
 // Runs a loaded code with several probes, and prints what a command tells of it, or answers commands on it, likewise.
 fn print_loaded<R: Input + Print + Eprint + AllocGlobal>(
     rt: &R,
@@ -170,18 +221,20 @@ fn print_loaded<R: Input + Print + Eprint + AllocGlobal>(
     asked: &Asked<'_>,
     given: &Given,
     loaded: &Loaded<'_>,
-) -> Result<u8, u8> {
+) -> Result<Printed, u8> {
     let fitted = match fit(rt.alloc(), loaded, asked.set, &asked.setting.part) {
         Ok(fitted) => fitted,
         Err(fault) => return Err(tell_run_fault(rt, voice, fault, asked)),
     };
-    if request.verb() == Verb::Clearance {
-        return print_clearance(rt, voice, asked, given, loaded, &fitted);
+    let printed = match request.verb() {
+        Verb::Clearance => print_clearance(rt, voice, asked, given, loaded, &fitted),
+        Verb::Debug => debug_fitted(rt, &fitted),
+        _ => return print_remarked(rt, voice, request, asked, &fitted, given, loaded),
+    };
+    match printed {
+        Ok(status) => Ok(unremarked(rt.alloc(), status)),
+        Err(status) => Err(status),
     }
-    if request.verb() == Verb::Debug {
-        return debug_fitted(rt, &fitted);
-    }
-    print_told(rt, request, asked, &fitted, given, loaded)
 }
 
 // The same of an image.
@@ -191,7 +244,7 @@ fn print_image<R: Input + Print + Eprint + AllocGlobal>(
     request: &Request<'_, '_>,
     asked: &Asked<'_>,
     given: &Given,
-) -> Result<u8, u8> {
+) -> Result<Printed, u8> {
     let input = asked.input;
     match load(rt.alloc(), &given.image) {
         Ok(loaded) => print_loaded(rt, voice, request, asked, given, &loaded),
@@ -216,12 +269,14 @@ fn show_run<R: Input + Print + Eprint + AllocGlobal>(
     given: Given,
 ) -> u8 {
     match print_image(rt, voice, request, asked, &given) {
-        Ok(status) => {
+        Ok(Printed { status, remarks }) => {
             if !tries_boxes(request.verb()) {
                 tell_untried_boxes(rt, voice);
             }
             let Given { notices, .. } = given;
-            status_after(rt, voice, Ok(Done { status, notices }))
+            let status = status_after(rt, voice, Ok(Done { status, notices }));
+            let _ = eprint!(rt; "{remarks}");
+            status
         }
         Err(status) => status,
     }
@@ -269,19 +324,8 @@ fn show_several<R: Files + Input + Print + Eprint + AllocGlobal>(
     }
     match given_input(rt, input) {
         Ok(given) => show_run(rt, voice, request, &asked, given),
-        Err(message) => fails_about(rt, voice, message, input),
+        Err(message) => view_fails(rt, voice, message, input),
     }
-}
-
-// Tells why an input isn't read, with what a refusal of it is about, and gives the exit status.
-fn fails_about<R: Files + Input + Eprint + AllocGlobal>(
-    rt: &R,
-    voice: Voice,
-    message: Message<'_>,
-    input: &str,
-) -> u8 {
-    let status = fails_in_view(rt, voice, message, input);
-    tell_about(rt, voice, message, input, status)
 }
 
 // The view of boxes that are fixed to the tip: their clearance, or their first contact.
@@ -308,7 +352,7 @@ fn show_boxes<'x, R: Files + Input + Print + Eprint + AllocGlobal>(
 ) -> u8 {
     let given = match given_input(rt, request.input()) {
         Ok(given) => given,
-        Err(message) => return fails_about(rt, voice, message, request.input()),
+        Err(message) => return view_fails(rt, voice, message, request.input()),
     };
     let view = view_of(request.verb(), setting, boxes);
     match print_plain(rt, &view, setting, given, request.input()) {

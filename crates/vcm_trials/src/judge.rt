@@ -6,8 +6,8 @@ use std::fmt::Write as _;
 use std::rt::Files;
 use vcm_boxes::{Boxes, read_boxes};
 use vcm_devices::{
-    PartFile, Request, Told, Voice, alone, bytes_of, fails, fails_twice, part_file_given,
-    print_bytes,
+    PartFile, Request, Told, Voice, alone, bytes_of, fails, fails_twice, is_one_file,
+    part_file_given, print_bytes,
 };
 use vcm_judge::{
     Counts, Outcome, Verdict, count_outcomes, counts_line, csv_heading, csv_row, digest_of,
@@ -259,22 +259,33 @@ fn judge_all<'a, R: Files + Input + Print + Eprint + AllocGlobal>(
     Ok(status_of_outcomes(kept.outcomes.as_slice()))
 }
 
-// Whether a file that is written is one that is read, or both reports have one name.
-fn has_same_file(request: &Request<'_, '_>) -> bool {
+// Whether a file that is written, if there is one, is the one that is read.
+fn is_read<R: Files>(rt: &R, read: &str, written: Option<&str>) -> bool {
+    match written {
+        Some(written) => is_one_file(rt, read, written),
+        None => false,
+    }
+}
+
+// Whether a file that is written is one that is read, or both reports are one file.
+fn has_same_file<R: Files>(rt: &R, request: &Request<'_, '_>) -> bool {
     let junit = request.value(Choice::JUnit);
     let report = request.value(Choice::Report);
-    if junit.is_some() && junit == report {
-        return true;
+    if let Some(junit) = junit {
+        if is_read(rt, junit, report) {
+            return true;
+        }
     }
     for name in request.programs() {
-        if junit == Some(*name) || report == Some(*name) {
+        if is_read(rt, name, junit) || is_read(rt, name, report) {
             return true;
         }
     }
     for choice in [Choice::Beside, Choice::Probe] {
-        let read = request.value(choice);
-        if read.is_some() && (read == junit || read == report) {
-            return true;
+        if let Some(read) = request.value(choice) {
+            if is_read(rt, read, junit) || is_read(rt, read, report) {
+                return true;
+            }
         }
     }
     false
@@ -314,7 +325,7 @@ pub fn judge_programs<R: Files + Input + Print + Eprint + AllocGlobal>(
     voice: Voice,
     request: &Request<'_, '_>,
 ) -> u8 {
-    if has_same_file(request) {
+    if has_same_file(rt, request) {
         return fails(rt, SAME_FILE);
     }
     match request.steps() {

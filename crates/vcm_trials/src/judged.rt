@@ -10,6 +10,7 @@ use vcm_job::{Given, given_of, show, status_of};
 use vcm_judge::{Clearing, Measured, Outcome, Ran, Verdict, digest_of};
 use vcm_loader::{Loaded, load};
 use vcm_margin::margin;
+use vcm_meant::meant;
 use vcm_messages::{Message, Told as _, message_of, status_of as message_status};
 use vcm_motion::AnyPart;
 use vcm_num::NoMemory;
@@ -277,6 +278,7 @@ fn fill_in(
         margin: None,
         clearing: None,
         untried: 0,
+        remarks: 0,
     };
     if status == 0 {
         ran.margin = Some(margin(alloc, loaded, part, done)?.tip);
@@ -285,6 +287,9 @@ fn fill_in(
         let (clearing, met) = cleared(alloc, boxes, &program.given, part, steps)?;
         ran.clearing = Some(clearing);
         status = if met == 3 { 3 } else { status };
+    }
+    if !program.is_whole {
+        ran.remarks = meant(alloc, loaded, &workpiece, part, steps)?.len() as u64;
     }
     if program.is_whole {
         let (untried, is_all) = untried_of(alloc, &workpiece, loaded, steps, &program.remarks)?;

@@ -6,8 +6,8 @@ use std::fmt::Write as _;
 use std::rt::Files;
 use vcm_blocks::length_word;
 use vcm_devices::{
-    PartFile, Request, Voice, alone, bytes_of, fails, fails_in_view, fails_twice, moved_part,
-    part_file_given, print_bytes,
+    PartFile, Request, Voice, alone, bytes_of, fails, fails_twice, moved_part, part_file_given,
+    print_bytes, view_fails,
 };
 use vcm_job::{Given, PartFileFault, given_of, status_of};
 use vcm_keys::block_fixtures;
@@ -434,6 +434,6 @@ pub fn show_places<R: Files + Input + Print + Eprint + AllocGlobal>(
     };
     match show_input(rt, request.input(), &file, trial) {
         Ok(status) => status,
-        Err(message) => fails_in_view(rt, voice, message, request.input()),
+        Err(message) => view_fails(rt, voice, message, request.input()),
     }
 }
