@@ -131,6 +131,12 @@ int open(const char *name, int flags, ...) {
 
 int close(int file) { return 0; }
 
+// A file of the page is known by its name alone: two names are two files.
+int statx(int folder, const char *name, int flags, unsigned wanted, void *to) {
+  error = NO_SUCH_FILE;
+  return -1;
+}
+
 // No file is a terminal.
 int isatty(int file) { return 0; }
 
